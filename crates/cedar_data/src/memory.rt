@@ -1,0 +1,68 @@
+// SPDX-License-Identifier: Apache-2.0
+ghost use Rattle.std.specs.Prelude.{◌≡◌};
+ghost use Rattle.cedar_data.specs.declared.memory.Failure.TheVariants.{NoMemory as OutOfMemory};
+
+use std::alloc::{AllocError, AllocFailed};
+use std::error::Error;
+use std::fmt;
+
+/// Want of memory.
+#[derive(Clone, Copy, Debug, PartialEq, Eq)]
+pub struct NoMemory;
+
+/// Why a call was refused: by its own rules, or for want of memory.
+#[derive(Debug, Drop, PartialEq, Eq)]
+pub enum Failure<E> {
+    Refused(E),
+    NoMemory,
+}
+
+/// The answer of a call that fails only for want of memory.
+pub type Mem<T> = Result<T, NoMemory>;
+
+/// The answer of a call that may be refused, or fail for want of memory.
+pub type Out<T, E> = Result<T, Failure<E>>;
+
+impl fmt::Display for NoMemory {
+    fn fmt<W: fmt::Write>(&self, f: &mut fmt::Formatter<W>) -> fmt::Result {
+        write!(f, "out of memory")
+    }
+}
+
+impl Error for NoMemory {}
+
+impl From<AllocError> for NoMemory {
+    fn from(_e: AllocError) -> NoMemory {
+        NoMemory
+    }
+}
+
+impl<T: Drop> From<AllocFailed<T>> for NoMemory {
+    fn from(_e: AllocFailed<T>) -> NoMemory {
+        NoMemory
+    }
+}
+
+impl<E> From<NoMemory> for Failure<E> {
+    ghost from_gives = { λ _ e. e ≡ OutOfMemory };
+
+    fn from(_e: NoMemory) -> Failure<E> {
+        Failure::NoMemory
+    }
+}
+
+impl<E> From<AllocError> for Failure<E> {
+    ghost from_gives = { λ _ e. e ≡ OutOfMemory };
+
+    fn from(_e: AllocError) -> Failure<E> {
+        Failure::NoMemory
+    }
+}
+
+impl<E, T: Drop> From<AllocFailed<T>> for Failure<E> {
+    ghost from_gives = { λ _ e. e ≡ OutOfMemory };
+
+    fn from(_e: AllocFailed<T>) -> Failure<E> {
+        Failure::NoMemory
+    }
+}
