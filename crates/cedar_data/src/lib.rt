@@ -3,12 +3,20 @@
 //! results of a call that takes memory. Contracts see each of them as plain data.
 #![tactic(auto)]
 
+mod boxed;
 mod dup;
 mod items;
+mod map;
 mod memory;
+mod set;
+mod shared;
 mod text;
 
+pub use boxed::Boxed;
 pub use dup::Dup;
 pub use items::Items;
+pub use map::Map;
 pub use memory::{Failure, Mem, NoMemory, Out};
+pub use set::{Set, SetIter};
+pub use shared::Shared;
 pub use text::Text;

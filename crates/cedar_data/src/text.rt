@@ -2,11 +2,10 @@
 ghost use Rattle.std.specs.Prelude.{◌≡◌, List, ℕ, IfOk, Some, refl, nat_eq};
 ghost use Rattle.std.specs.Rc.{rc_str_bytes};
 ghost use Rattle.std.specs.Cmp;
-ghost use Rattle.std.specs.Cmp.Lexicographic.{pointwise, slice_cmp, nat_list_eq_equiv, nat_list_cmp_total, texts_ties, texts_po};
-ghost use Rattle.std.specs.Cmp.Rules.{hashing};
+ghost use Rattle.std.specs.Cmp.Lexicographic.{pointwise, slice_cmp, nat_list_eq_equiv, nat_list_cmp_total, bytes_decides, texts_ties, texts_po};
 ghost use Rattle.std.specs.Hash as fed;
+ghost use Rattle.std.specs.Hash.{same_Alike};
 ghost use Rattle.std.specs.Ordering.{nat_cmp};
-ghost use Rattle.std.proofs.Common.{rules};
 
 use crate::dup::Dup;
 use crate::memory::Mem;
@@ -18,7 +17,7 @@ use std::marker::Model;
 use std::rc::RcStr;
 
 /// Shared text. A copy shares the bytes of its source.
-#[derive(Drop)]
+#[derive(Debug, Drop)]
 pub struct Text {
     shared: RcStr,
 }
@@ -30,6 +29,7 @@ impl Model for Text {
 }
 
 impl Text {
+    /// The text with the bytes of `s`. It fails only for want of memory.
     pub fn new(alloc: Global, s: &str) -> Mem<Text>
         ensures { IfOk result (λ t. t ≡ s.now) }
     {
@@ -37,6 +37,7 @@ impl Text {
         Ok(Text { shared })
     }
 
+    /// The text as a `str`.
     pub fn as_str(&self) -> &str
         ensures { result.now ≡ self.now }
     {
@@ -92,7 +93,7 @@ impl Ord for Text {
 impl Hash for Text {
     ghost hash_input = { fed.str };
 
-    ghost respects_eq = { Prim.search (hashing, rules) };
+    ghost respects_eq = { (same_Alike fed.str bytes_decides).fed };
 
     fn hash<H: Hasher>(&self, state: &mut H) {
         self.as_str().hash(state);

@@ -1,0 +1,13 @@
+-- SPDX-License-Identifier: Apache-2.0
+pub mod AnnotationLemmas
+pub mod EscapeLemmas
+pub mod ExtensionLemmas
+pub mod FormLemmas
+pub mod Ids
+pub mod JoinLemmas
+pub mod NameLemmas
+pub mod NameOrder
+pub mod NormalNameLemmas
+pub mod PartsLemmas
+pub mod UnescapeLemmas
+pub mod WordsLemmas

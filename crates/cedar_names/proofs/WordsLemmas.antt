@@ -1,0 +1,34 @@
+-- SPDX-License-Identifier: Apache-2.0
+use Rattle.std.proofs.Common.{◌≡◌, Bool, true, false, List, [], ◌∷◌, ◌++◌, refl, ap}
+use Rattle.std.specs.Cmp.Lexicographic.{pointwise, slice_cmp}
+use Rattle.std.specs.declared.cmp.Ordering.{Ordering}
+use Rattle.std.specs.Ordering.{ordering_then, nat_cmp}
+use Rattle.cedar_names.specs.HashLaws.{id_eq, words_eq-parts}
+use Rattle.cedar_names.specs.Identifiers.{id_words}
+use Rattle.cedar_names.specs.Order.{words_cmp, words_eq}
+use Rattle.cedar_names.specs.Components.{components}
+use Rattle.cedar_names.specs.declared.id.Id.{Id}
+use Rattle.cedar_names.specs.declared.internal_name.InternalName.{InternalName}
+
+-- the order of two identifiers is that of their words
+abbrev pub id_cmp : Id → Id → Ordering
+id_cmp i j = slice_cmp nat_cmp i.word j.word
+
+-- two lists of identifiers are ordered as their words
+pub slice_cmp-id_words : (is js : List Id) → slice_cmp id_cmp is js ≡ words_cmp (id_words is) (id_words js)
+slice_cmp-id_words [] [] = refl
+slice_cmp-id_words [] (j ∷ js) = refl
+slice_cmp-id_words (i ∷ is) [] = refl
+slice_cmp-id_words (i ∷ is) (j ∷ js) = ap (ordering_then (id_cmp i j)) (slice_cmp-id_words is js)
+
+-- the order of the identifiers of two names is that of their components
+pub slice_cmp-components : (n m : InternalName) → slice_cmp id_cmp (n.namespace ++ n.basename ∷ []) (m.namespace ++ m.basename ∷ []) ≡ words_cmp (components n) (components m)
+slice_cmp-components n m = slice_cmp-id_words (n.namespace ++ n.basename ∷ []) (m.namespace ++ m.basename ∷ [])
+
+-- what the test of the namespaces answers after basenames that are equal
+pub words_eq-then : (n m : InternalName) (r s : Bool) → r ≡ id_eq n.basename m.basename → r ≡ true → s ≡ pointwise id_eq n.namespace m.namespace → s ≡ words_eq (components n) (components m)
+words_eq-then n m r s base equal rest = rw (← words_eq-parts n.namespace m.namespace n.basename m.basename, ← base, equal) rest
+
+-- what the test answers after basenames that differ
+pub words_eq-else : (n m : InternalName) (r : Bool) → r ≡ id_eq n.basename m.basename → r ≡ false → r ≡ words_eq (components n) (components m)
+words_eq-else n m r base differ = rw (← words_eq-parts n.namespace m.namespace n.basename m.basename, ← base, differ) refl

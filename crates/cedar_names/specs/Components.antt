@@ -1,0 +1,47 @@
+-- SPDX-License-Identifier: Apache-2.0
+use Rattle.std.specs.Prelude.{ℕ, Bool, List, [], ◌∷◌, ◌++◌, Option, Some, None, codes}
+use Rattle.std.specs.List.{list_any, flat_map}
+use Rattle.cedar_names.specs.Identifiers.{id_words}
+use Rattle.cedar_names.specs.Words.{is_cedar}
+use Rattle.cedar_names.specs.declared.id.Id.{Id}
+use Rattle.cedar_names.specs.declared.internal_name.InternalName.{InternalName}
+use Rattle.cedar_names.specs.declared.location.Loc.{Loc}
+
+-- the name of this basename in this namespace, at this place
+abbrev pub internal_name : Id → List Id → Option Loc → InternalName
+internal_name basename namespace loc = record { basename = basename; namespace = namespace; loc = loc }
+
+-- the basename
+abbrev pub basename_of : InternalName → Id
+basename_of n = n.basename
+
+-- the identifiers of the namespace, outermost first
+abbrev pub namespace_of : InternalName → List Id
+namespace_of n = n.namespace
+
+-- the place
+abbrev pub loc_of : InternalName → Option Loc
+loc_of n = n.loc
+
+-- the words of a name: those of its namespace, and then the basename
+abbrev pub components : InternalName → List (List ℕ)
+components n = id_words (n.namespace ++ n.basename ∷ [])
+
+-- some component is `__cedar`
+abbrev pub has_cedar : List (List ℕ) → Bool
+has_cedar ws = list_any is_cedar ws
+
+-- the words with `::` between them
+abbrev pub joined : List (List ℕ) → List ℕ
+joined [] = []
+joined (w ∷ ws) = w ++ flat_map (λ v. codes "::" ++ v) ws
+
+-- the name itself where it has a namespace, else the name in this one
+abbrev pub in_namespace : List Id → InternalName → List Id → InternalName
+in_namespace outer n [] = internal_name n.basename outer n.loc
+in_namespace outer n (id ∷ ids) = n
+
+-- the name within the namespace that another name names, where there is one and the name has no namespace
+abbrev pub qualified : InternalName → Option InternalName → InternalName
+qualified n None = n
+qualified n (Some ns) = in_namespace (ns.namespace ++ ns.basename ∷ []) n n.namespace

@@ -1,0 +1,7 @@
+-- SPDX-License-Identifier: Apache-2.0
+use Rattle.std.specs.Prelude.{ℕ, ◌≤◌, List}
+use Rattle.std.specs.Str.{IsCharBoundary}
+
+-- the bytes from start to end are a range of the text on boundaries of its characters
+abbrev pub IsTextRange : List ℕ → ℕ → ℕ → Type 0
+IsTextRange text start end = (start ≤ end) × IsCharBoundary text start × IsCharBoundary text end

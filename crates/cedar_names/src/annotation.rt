@@ -1,0 +1,96 @@
+// SPDX-License-Identifier: Apache-2.0
+ghost use Rattle.std.specs.Prelude.{◌≡◌, [], ◌↔◌, ℕ, List, cond, Some, IsTrue, OnOk, OnErr};
+ghost use Rattle.std.specs.BTreeMap.{insert_entry};
+ghost use Rattle.std.specs.Option.{option_copied};
+ghost use Rattle.std.specs.Str.{bytes_eq};
+ghost use Rattle.cedar_data.specs.Maps.{IsSortedMap};
+ghost use Rattle.cedar_names.specs.Annotating.{annotation_entries, annotation_at, any_cmp};
+ghost use Rattle.cedar_names.specs.Identifiers.{any_word};
+
+use crate::any_id::AnyId;
+use crate::location::Loc;
+use cedar_data::{Dup, Map, Mem, Text};
+use std::alloc::Global;
+use std::collections::btree_map::Iter;
+
+/// The value of an annotation. Comparisons leave the place out.
+#[derive(Debug, Drop)]
+#[derive_where(PartialEq, Eq, PartialOrd, Ord)]
+pub struct Annotation {
+    pub val: Text,
+    #[derive_where(skip(EqHashOrd))]
+    pub loc: Option<Loc>,
+}
+
+impl Dup for Annotation {
+    fn dup(&self, alloc: Global) -> Mem<Annotation> {
+        let val = self.val.dup(alloc)?;
+        let loc = self.loc.dup(alloc)?;
+        Ok(Annotation { val, loc })
+    }
+}
+
+/// Annotations with their keys, in key order.
+pub type AnnotationIter<'a> = Iter<'a, AnyId, Annotation>;
+
+/// Annotations by their keys, in key order.
+#[derive(Debug, Drop, PartialEq, Eq, PartialOrd, Ord)]
+pub struct Annotations {
+    map: Map<AnyId, Annotation>,
+}
+
+impl Annotations {
+    /// No annotations.
+    pub fn new(alloc: Global) -> Annotations
+        ensures { annotation_entries result ≡ [] }
+    {
+        Annotations {
+            map: Map::new(alloc),
+        }
+    }
+
+    /// Puts the annotation at the key, in place of one that was there. It fails only for want of memory, and then
+    /// changes nothing.
+    pub fn insert(&mut self, key: AnyId, a: Annotation) -> Mem<()>
+        ensures ok { OnOk result (annotation_entries self.new ≡ insert_entry any_cmp (annotation_entries self.old) key a) }
+        ensures puts { OnOk result ((name : List ℕ) → annotation_at (annotation_entries self.new) name
+            ≡ cond (bytes_eq name (any_word key)) (Some a) (annotation_at (annotation_entries self.old) name)) }
+        ensures err { OnErr result (self.new ≡ self.old) }
+    {
+        self.map.put(key, a)
+    }
+
+    /// The annotation at the key of this word.
+    pub fn get(&self, key: &str) -> Option<&Annotation>
+        ensures { option_copied result ≡ annotation_at (annotation_entries self.now) key.now }
+    {
+        for (id, annotation) in self.map.iter() {
+            if key == id.as_ref() {
+                return Some(annotation);
+            }
+        }
+        None
+    }
+
+    /// Whether there are none.
+    pub fn is_empty(&self) -> bool
+        ensures { IsTrue result ↔ (annotation_entries self.now ≡ []) }
+    {
+        self.map.is_empty()
+    }
+
+    /// The annotations with their keys, in key order.
+    pub fn iter(&self) -> AnnotationIter<'_>
+        ensures rest { result ≡ annotation_entries self.now }
+        ensures ascending { IsSortedMap any_cmp (annotation_entries self.now) }
+    {
+        self.map.iter()
+    }
+}
+
+impl Dup for Annotations {
+    fn dup(&self, alloc: Global) -> Mem<Annotations> {
+        let map = self.map.dup(alloc)?;
+        Ok(Annotations { map })
+    }
+}

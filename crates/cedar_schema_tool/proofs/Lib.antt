@@ -1,0 +1,5 @@
+-- SPDX-License-Identifier: Apache-2.0
+pub mod Answering
+pub mod Asking
+pub mod Depths
+pub mod TypeTexts

@@ -1,0 +1,9 @@
+-- SPDX-License-Identifier: Apache-2.0
+pub mod Answering
+pub mod Asking
+pub mod CommandLine
+pub mod Listing
+pub mod Refusal
+pub mod Rows
+pub mod Running
+pub mod Statuses

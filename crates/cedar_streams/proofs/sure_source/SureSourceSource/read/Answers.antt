@@ -1,0 +1,9 @@
+-- SPDX-License-Identifier: Apache-2.0
+use Rattle.std.proofs.Common.{arith}
+use Rattle.cedar_streams.proofs.Copied.{gives-past}
+use Rattle.cedar_streams.proofs.sure_source.SureSourceSource.read.Goals as goal
+
+pub returns-clause-bytes : goal.returns-clause-bytes
+returns-clause-bytes c =
+    let copied = c.copy_front-taken.ensures in
+    gives-past _ _ _ _ _ _ _ _ c.deref.ensures.value c.self.view_is copied.count (omega arith) copied.copied

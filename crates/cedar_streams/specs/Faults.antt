@@ -1,0 +1,16 @@
+-- SPDX-License-Identifier: Apache-2.0
+-- How a failure is tied to a count of faults.
+use Rattle.std.specs.Prelude.{ℕ, ◌+◌, ◌-◌, ◌^◌, ◌≤◌, min, Result, OnErr}
+
+-- one more, up to the greatest u64
+abbrev pub one_more : ℕ → ℕ
+one_more count = min (count + 1) (2 ^ 64 - 1)
+
+-- the count rose, or stands at the greatest u64
+abbrev pub Rose : ℕ → ℕ → Type 0
+Rose before now = one_more before ≤ now
+
+-- the count has not fallen, and where the call failed it rose
+pub record HasCause {T E : Type 0} (before now : ℕ) (result : Result T E) : Type 0 where
+  pub later : before ≤ now
+  pub failed : OnErr result (Rose before now)

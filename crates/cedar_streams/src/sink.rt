@@ -1,0 +1,39 @@
+// SPDX-License-Identifier: Apache-2.0
+ghost use Rattle.std.specs.Prelude.{ℕ, ◌<◌, List, length, Option, Some, IfOk, codes};
+ghost use Rattle.std.specs.Io.{WritesAtMost};
+ghost use Rattle.cedar_streams.specs.Bytes.{WriteTakes};
+ghost use Rattle.cedar_streams.specs.Faults.{HasCause};
+
+use std::error::Error;
+use std::fmt;
+
+/// A write that failed.
+#[derive(Clone, Copy, Debug, PartialEq, Eq)]
+pub struct SinkFailed;
+
+impl fmt::Display for SinkFailed {
+    ghost output = { λ _. Some (codes "the sink failed") };
+
+    fn fmt<W: fmt::Write>(&self, f: &mut fmt::Formatter<W>) -> fmt::Result {
+        write!(f, "the sink failed")
+    }
+}
+
+impl Error for SinkFailed {}
+
+/// What bytes are written to.
+pub trait Sink {
+    /// The bytes that were written, where the sink tells them.
+    ghost written: { Self → Option (List ℕ) };
+
+    /// How often the sink failed. It never falls.
+    ghost faults: { Self → ℕ };
+
+    /// Writes bytes from the front of the piece, and answers how many: at least one of a piece that
+    /// isn't empty. A failure writes nothing.
+    fn write(&mut self, piece: &[u8]) -> Result<usize, SinkFailed>
+        ensures bound { WritesAtMost result piece.now }
+        ensures progress { IfOk result (λ n. 0 < length piece.now → 0 < n) }
+        ensures bytes { WriteTakes (written self.old) (written self.new) result piece.now }
+        ensures cause { HasCause (faults self.old) (faults self.new) result };
+}

@@ -1,0 +1,14 @@
+-- SPDX-License-Identifier: Apache-2.0
+pub mod Cuts
+pub mod Lexed
+pub mod KindNumbers
+pub mod Readers
+pub mod Trees
+pub mod Types
+pub mod Records
+pub mod Declarations
+pub mod Schemas
+pub mod Loops
+pub mod PlainLemmas
+pub mod Agreement
+pub mod Viability

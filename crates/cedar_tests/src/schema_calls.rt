@@ -1,0 +1,105 @@
+// SPDX-License-Identifier: Apache-2.0
+use cedar_names::{Dup, EntityType, Extensions, Mem, Name, Text, UnreservedId};
+use cedar_syntax::read_plain;
+use cedar_types::{AttributeType, Attributes, OpenTag, Type, TypeView};
+use cedar_validator::{CedarSchemaError, ValidatorSchema};
+use std::alloc::Global;
+use std::test::Fail;
+
+/// An entity type of the example.
+fn entity(alloc: Global, word: &str) -> Result<EntityType, Fail> {
+    let id = UnreservedId::from_normalized_str(alloc, word)
+        .ok()
+        .ok_or("no identifier")?;
+    Ok(EntityType::from_name(Name::unqualified_name(alloc, id)))
+}
+
+#[test]
+fn types(rt: HostRuntime) -> Result<(), Fail> {
+    let alloc = rt.alloc();
+    let set = Type::set(alloc, Type::primitive_long())?;
+    assert!(rt; matches!(set.view(), TypeView::Set(_)));
+    assert_eq!(rt; set.dup(alloc)?, set);
+    let user = Type::named_entity_reference(entity(alloc, "User")?);
+    assert!(rt; matches!(user.view(), TypeView::Entity(_)));
+    let any = Type::any_record(alloc)?;
+    assert!(rt; matches!(any.view(), TypeView::Record(_, OpenTag::OpenAttributes)));
+    Ok(())
+}
+
+/// Attributes `b` and `a`, `b` given twice.
+fn two_attributes(alloc: Global) -> Mem<Attributes> {
+    let mut list = Vec::new(alloc);
+    list.push((Text::new(alloc, "b")?, Type::primitive_string()))?;
+    list.push((Text::new(alloc, "a")?, Type::primitive_long()))?;
+    let set = Type::set(alloc, Type::primitive_long())?;
+    list.push((Text::new(alloc, "b")?, set))?;
+    Attributes::with_required_attributes(alloc, list)
+}
+
+/// One attribute that isn't required.
+fn one_attribute(alloc: Global) -> Mem<Attributes> {
+    let attribute = AttributeType {
+        attr_type: Type::primitive_boolean(),
+        is_required: false,
+    };
+    let mut list = Vec::new(alloc);
+    list.push((Text::new(alloc, "c")?, attribute))?;
+    Attributes::with_attributes(alloc, list)
+}
+
+#[test]
+fn attributes(rt: HostRuntime) -> Result<(), Fail> {
+    let alloc = rt.alloc();
+    let attributes = two_attributes(alloc)?;
+    assert_eq!(rt; attributes.len(), 2);
+    let b = attributes.get_attr("b").ok_or("no attribute")?;
+    assert!(rt; b.is_required);
+    assert!(rt; matches!(b.attr_type.view(), TypeView::Set(_)));
+    assert_eq!(rt; attributes.dup(alloc)?, attributes);
+    let record = Type::record_with_attributes(alloc, attributes, OpenTag::ClosedAttributes)?;
+    assert!(rt;
+        matches!(
+            record.view(),
+            TypeView::Record(_, OpenTag::ClosedAttributes)
+        )
+    );
+    let one = one_attribute(alloc)?;
+    assert_eq!(rt; one.len(), 1);
+    assert!(rt; !one.get_attr("c").ok_or("no attribute")?.is_required);
+    Ok(())
+}
+
+#[test]
+fn schemas(rt: HostRuntime) -> Result<(), Fail> {
+    let alloc = rt.alloc();
+    let extensions = Extensions::all_available(alloc)?;
+    let text = "entity User { name: String }; entity A;";
+    assert_eq!(rt; read_plain(alloc, text).ok().ok_or("no reading")?.len(), 2);
+    let schema = ValidatorSchema::from_cedarschema_str(alloc, text, &extensions)
+        .ok()
+        .ok_or("refused")?;
+    assert_eq!(rt; schema.entity_types().count(), 2);
+    let copy = schema.dup(alloc)?;
+    for (name, ty) in copy.entity_types() {
+        assert_eq!(rt; name, ty.name());
+        assert!(rt; ty.descendants.is_empty());
+        assert_eq!(rt; ty.dup(alloc)?.attributes(), ty.attributes());
+    }
+    Ok(())
+}
+
+#[test]
+fn errors(rt: HostRuntime) -> Result<(), Fail> {
+    let alloc = rt.alloc();
+    let not_built = CedarSchemaError::NotBuilt.dup(alloc)?;
+    assert_eq!(rt; not_built.to_string(alloc)?.as_str(), "not built yet");
+    assert!(rt; not_built.help(alloc)?.is_none());
+    assert_eq!(rt; not_built.spans(alloc)?.len(), 0);
+    let twice = CedarSchemaError::DuplicateDeclarations {
+        name: Text::new(alloc, "A")?,
+    };
+    assert_eq!(rt; twice.dup(alloc)?, twice);
+    assert!(rt; twice.help(alloc)?.is_none());
+    Ok(())
+}

@@ -1,0 +1,23 @@
+-- SPDX-License-Identifier: Apache-2.0
+use Rattle.std.proofs.Common.{[], ◌∷◌, ap, sym, ◌∙◌, rules}
+use Rattle.std.proofs.lemmas.Iterator.Adapters.{YieldsList-from_vec}
+use Rattle.std.proofs.lemmas.Iterator.Consumers.{YieldsList-end}
+use Rattle.std.proofs.lemmas.List.{map-id}
+use Rattle.std.specs.Cmp.Lexicographic.{nat_list_cmp_total}
+use Rattle.cedar_data.proofs.Build.{Builds-next}
+use Rattle.cedar_data.proofs.Rebuild.{map_values-append}
+use Rattle.cedar_data.specs.Maps.{get_text, is_text, last_value, map_values}
+use Rattle.cedar_types.proofs.Entries.{entries-attributes_of}
+use Rattle.cedar_types.specs.Types.{required}
+use Rattle.cedar_types.proofs.ty.Attributes.with_required_attributes.Goals as goal
+
+pub loop-name-preserved : goal.loop-name-preserved
+loop-name-preserved c =
+    Builds-next nat_list_cmp_total c.in-Some.name (required c.in-Some.attr_type) c.loop-name.invariant
+    (map_values-append required c.loop-name.yielded ((c.in-Some.name, c.in-Some.attr_type) ∷ [])) c.in_ok-put.ensures.ok c.in_ok-put.ensures.puts c.put.ensures.ordered
+
+pub returns-clause-values : goal.returns-clause-values
+returns-clause-values c =
+    let all = YieldsList-end (YieldsList-from_vec c.args.list.items (search rules) (search rules)) c.loop-name.yielded c.loop-name.name-iterator c.loop-name.yielded_by c.next.result c.next.new.self c.in-None.is c.next.ensures.steps in
+    λ name. ap (λ es. get_text es name) (entries-attributes_of c.loop-name.map) ∙ c.loop-name.invariant.at name
+    ∙ ap (λ pairs. last_value (is_text name) (map_values required pairs)) (sym (map-id c.loop-name.yielded) ∙ all.0)

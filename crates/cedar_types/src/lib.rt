@@ -1,0 +1,8 @@
+// SPDX-License-Identifier: Apache-2.0
+//! The resolved types of an accepted schema: what a type means once each name in it is an entity
+//! type, an extension type or a primitive.
+#![tactic(auto)]
+
+mod ty;
+
+pub use ty::{AttrIter, AttributeType, Attributes, OpenTag, ResolvedType as Type, TypeView};

@@ -1,0 +1,10 @@
+-- SPDX-License-Identifier: Apache-2.0
+pub mod Aligned
+pub mod BuildingLemmas
+pub mod Indexing
+pub mod FromText
+pub mod Joining
+pub mod Meanings
+pub mod Resolving
+pub mod ShapesLemmas
+pub mod WordLists

@@ -1,0 +1,10 @@
+-- SPDX-License-Identifier: Apache-2.0
+pub mod Building
+pub mod Declarations
+pub mod Denotes
+pub mod Refusals
+pub mod Schemas
+pub mod Shapes
+pub mod Texts
+pub mod UndefinedWords
+pub mod WellFormed

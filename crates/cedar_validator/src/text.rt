@@ -1,0 +1,34 @@
+// SPDX-License-Identifier: Apache-2.0
+ghost use Rattle.std.specs.Prelude.{List};
+ghost use Rattle.cedar_names.specs.Extensions.{extension_words};
+ghost use Rattle.cedar_names.specs.Words.{has_word};
+ghost use Rattle.cedar_syntax.specs.Plain.{DeclTree};
+ghost use Rattle.cedar_validator.specs.WellFormed.{IsWellFormed, Answers, AcceptsAs};
+
+use crate::building::resolve;
+use crate::errors::CedarSchemaError;
+use crate::schema::ValidatorSchema;
+use cedar_data::{Failure, Out};
+use cedar_names::Extensions;
+use cedar_syntax::read_plain;
+use std::alloc::Global;
+
+impl ValidatorSchema {
+    /// The schema that a text in the human syntax denotes, where the caller knows these extension types.
+    pub fn from_cedarschema_str(
+        alloc: Global,
+        src: &str,
+        extensions: &Extensions,
+    ) -> Out<ValidatorSchema, CedarSchemaError>
+        // A schema that the text denotes, or a refusal whose cause stands in the text.
+        ensures answers { Answers src.now (has_word (extension_words extensions.now)) result }
+        // A well formed text is accepted, want of memory aside.
+        ensures accepts { (ds : List DeclTree) → IsWellFormed src.now (has_word (extension_words extensions.now)) ds → AcceptsAs ds result }
+    {
+        match read_plain(alloc, src) {
+            Ok(decls) => resolve(alloc, decls, extensions),
+            Err(Failure::Refused(_)) => Err(Failure::Refused(CedarSchemaError::NotBuilt)),
+            Err(Failure::NoMemory) => Err(Failure::NoMemory),
+        }
+    }
+}
