@@ -1,6 +1,7 @@
 -- SPDX-License-Identifier: Apache-2.0
 -- The text of a schema: a line for each entity type.
 use Rattle.std.specs.Prelude.{ℕ, Bool, List, [], map, flat_map, if◌then◌else◌, codes}
+use Rattle.std.specs.Map.{values_of}
 use Rattle.cedar_names.specs.Escapes.{escaped}
 use Rattle.cedar_names.specs.Names.{name_words, entity_words}
 use Rattle.cedar_streams.specs.Texts.{◌+++◌, joined}
@@ -54,4 +55,4 @@ entity_line ty =
 
 -- the lines of a schema
 abbrev pub listing : ValidatorSchema → List ℕ
-listing schema = flat_map (λ entry. entity_line entry.1) (types schema)
+listing schema = flat_map entity_line (values_of (types schema))

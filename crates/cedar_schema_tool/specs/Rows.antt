@@ -30,7 +30,3 @@ row_text row = quoted_text row.0 +++ attribute_text row.1
 -- the mark of an attribute that isn't required
 abbrev pub mark_text : Bool → List ℕ
 mark_text is_required = if is_required then [] else codes "?"
-
--- the line of an entry of a schema
-abbrev pub entry_line : EntityType × ValidatorEntityType → List ℕ
-entry_line entry = entity_line entry.1

@@ -21,7 +21,7 @@ use cedar_validator::{ValidatorEntityType, ValidatorSchema};
 pub fn write_listing<K: Sink>(schema: &ValidatorSchema, out: &mut K) -> Result<(), SinkFailed>
     ensures { Writes K.written K.faults out.old out.new (listing schema.now) result }
 {
-    for (_, ty) in schema.entity_types() {
+    for ty in schema.entity_types() {
         write_entity(ty, out)?;
     }
     Ok(())

@@ -6,6 +6,20 @@ use std::test::Fail;
 const TEXT: &[u8] = b"entity A; entity B { a: Set<A> };";
 
 #[test]
+fn second_read(rt: HostRuntime) -> Result<(), Fail> {
+    let alloc = rt.alloc();
+    let fail_at = FailAt {
+        source: vec![in alloc; 2u64]?,
+        out: Vec::new(alloc),
+        err: Vec::new(alloc),
+    };
+    let outcome = run_failing(alloc, "resolve", b"entity A;", 4_096, fail_at)?;
+    assert_eq!(rt; outcome.status, Status::ReadFault);
+    assert_eq!(rt; outcome.out.len(), 0);
+    Ok(())
+}
+
+#[test]
 fn each_read(rt: HostRuntime) -> Result<(), Fail> {
     let alloc = rt.alloc();
     let whole = run_failing(alloc, "resolve", TEXT, 7, FailAt::never(alloc))?;

@@ -81,8 +81,7 @@ fn schemas(rt: HostRuntime) -> Result<(), Fail> {
         .ok_or("refused")?;
     assert_eq!(rt; schema.entity_types().count(), 2);
     let copy = schema.dup(alloc)?;
-    for (name, ty) in copy.entity_types() {
-        assert_eq!(rt; name, ty.name());
+    for ty in copy.entity_types() {
         assert!(rt; ty.descendants.is_empty());
         assert_eq!(rt; ty.dup(alloc)?.attributes(), ty.attributes());
     }

@@ -1,6 +1,7 @@
 -- SPDX-License-Identifier: Apache-2.0
 -- Loops that go over keys in order and make one entry for each.
 use Rattle.std.proofs.Common.{◌≡◌, List, [], ◌∷◌, ◌++◌, map, refl, sym, ap, ◌∙◌, subst, append_assoc}
+use Rattle.std.proofs.lemmas.List.{append-nil, map-append}
 use Rattle.std.specs.declared.cmp.Ordering.{Ordering}
 use Rattle.std.specs.declared.cmp.Ordering.TheVariants.{Less, Greater}
 use Rattle.std.specs.Ordering.{ordering_reverse, match_ordering}
@@ -18,10 +19,6 @@ pub record Aligned {W E : Type 0} (R : W → E → Type 0) (whole left : List W)
 pub Aligned-start : {W E : Type 0} (R : W → E → Type 0) (whole : List W) → Aligned R whole whole []
 Aligned-start R whole = record { done = []; split = refl; each = tt }
 
-append-nil : {W : Type 0} (xs : List W) → xs ++ [] ≡ xs
-append-nil [] = refl
-append-nil (x ∷ xs) = ap (λ l. x ∷ l) (append-nil xs)
-
 pub Aligned-end : {W E : Type 0} {R : W → E → Type 0} {whole left : List W} {made : List E} → Aligned R whole left made → left ≡ [] → AllZip R whole made
 Aligned-end {W} {R = R} {made = made} sofar none =
     subst (λ (xs : List W). AllZip R xs made) (sym (append-nil sofar.done) ∙ ap (λ l. sofar.done ++ l) (sym none) ∙ sofar.split) sofar.each
@@ -36,10 +33,6 @@ AllZip-map R f (w ∷ ws) (e ∷ es) z = (z.0, AllZip-map R f ws es z.1)
 at_next : {X : Type 0} (P : X → Type 0) (xs ys : List X) (x : X) → AllByRecursion P (xs ++ x ∷ ys) → P x
 at_next P [] ys x all = all.0
 at_next P (y ∷ xs) ys x all = at_next P xs ys x all.1
-
-map-append : {W J : Type 0} (f : W → J) (xs ys : List W) → map f (xs ++ ys) ≡ map f xs ++ map f ys
-map-append f [] ys = refl
-map-append f (x ∷ xs) ys = ap (λ l. f x ∷ l) (map-append f xs ys)
 
 module _ {W J K V : Type 0} (R : W → K × V → Type 0) (cmp : K → K → Ordering) {order : J → J → Ordering} (total : IsTotalOrder order) (key : W → J)
     (same : (w x : W) (e f : K × V) → R w e → R x f → cmp f.0 e.0 ≡ order (key x) (key w)) where

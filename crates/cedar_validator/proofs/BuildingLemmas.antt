@@ -1,6 +1,7 @@
 -- SPDX-License-Identifier: Apache-2.0
 -- The loop that makes the entity types of a world.
 use Rattle.std.proofs.Common.{◌≡◌, ℕ, Bool, List, [], ◌∷◌, ◌++◌, Option, Some, None, refl, sym, ap, ◌∙◌, subst, option_to_list, append_assoc}
+use Rattle.std.proofs.lemmas.List.{append-nil}
 use Rattle.std.specs.List.{AllZip, cons_option}
 use Rattle.std.specs.BTreeMap.{insert_entry}
 use Rattle.std.specs.Cmp.{IsTotalOrder}
@@ -76,10 +77,6 @@ Building-next {declared} {whole} {left} {rest} {types} {new} {missing} {more} na
       (λ w x e f r s. same_order f.0 e.0 (unreserved_word x.0) (unreserved_word w.0) s.0 r.0)
       (name, written) put.0 put.1 (sofar.types_are before) first sorted put.2 put.3;
 }
-
-append-nil : {W : Type 0} (xs : List W) → xs ++ [] ≡ xs
-append-nil [] = refl
-append-nil (x ∷ xs) = ap (λ l. x ∷ l) (append-nil xs)
 
 pub Building-missing : {declared : List ℕ → Bool} {whole left : List Kept} {types : List (EntityType × ValidatorEntityType)} {missing : List (List ℕ)} → Building declared whole left types missing → left ≡ [] → missing ≡ missing_of declared (kept_world whole)
 Building-missing {declared} {missing = missing} sofar none = sym (append-nil missing) ∙ ap (λ l. missing ++ missing_of declared (kept_world l)) (sym none) ∙ sofar.missing_is

@@ -1,6 +1,7 @@
 -- SPDX-License-Identifier: Apache-2.0
 -- The loop that keeps shapes by name.
 use Rattle.std.proofs.Common.{◌≡◌, ◌++◌, ℕ, Bool, true, false, List, [], ◌∷◌, map, fold, refl, sym, ap, ◌∙◌, bytes_eq, ◌||◌, append_assoc}
+use Rattle.std.proofs.lemmas.List.{append-nil}
 use Rattle.std.specs.BTreeMap.{insert_entry, is_at}
 use Rattle.std.specs.declared.cmp.Ordering.{Ordering}
 use Rattle.std.specs.Map.{keys_of, lookup}
@@ -61,10 +62,6 @@ Indexed-next shapes world next shape left i absent put =
     or_flip false true = refl
     or_flip true false = refl
     or_flip true true = refl
-
-append-nil : (xs : List (List ℕ)) → xs ++ [] ≡ xs
-append-nil [] = refl
-append-nil (x ∷ xs) = ap (λ l. x ∷ l) (append-nil xs)
 
 pub Indexed-end : (shapes : List Shape) (world : List (UnreservedId × List (List ℕ × PlainType))) (left : List Shape) → left ≡ [] → Indexed shapes world left → Indexes (map shape_tree shapes) world
 Indexed-end shapes world left none i =

@@ -5,7 +5,7 @@ use cedar_data::{Dup, Map, Mem, Set};
 use cedar_names::EntityType;
 use cedar_types::Attributes;
 use std::alloc::Global;
-use std::collections::btree_map::Iter;
+use std::collections::btree_map::Values;
 
 /// An entity type of a schema.
 #[derive(Debug, Drop)]
@@ -22,8 +22,8 @@ pub struct ValidatorSchema {
     entity_types: Map<EntityType, ValidatorEntityType>,
 }
 
-/// Entity types by name, in the order of the names.
-pub type EntityIter<'a> = Iter<'a, EntityType, ValidatorEntityType>;
+/// Entity types, in the order of their names.
+pub type EntityIter<'a> = Values<'a, EntityType, ValidatorEntityType>;
 
 impl ValidatorEntityType {
     ghost use Rattle.cedar_names.specs.declared.name.EntityType.{EntityType};
@@ -75,8 +75,7 @@ impl Dup for ValidatorEntityType {
 
 impl ValidatorSchema {
     ghost use Rattle.std.specs.Prelude.{◌≡◌};
-    ghost use Rattle.cedar_names.specs.Names.{entity_cmp};
-    ghost use Rattle.cedar_data.specs.Maps.{IsSortedMap};
+    ghost use Rattle.std.specs.Map.{values_of};
     ghost use Rattle.cedar_validator.specs.Schemas.{types};
 
     /// The schema of these entity types.
@@ -88,9 +87,9 @@ impl ValidatorSchema {
 
     /// The entity types, in the order of their names.
     pub fn entity_types(&self) -> EntityIter<'_>
-        ensures { result ≡ types self.now }
+        ensures { result ≡ values_of (types self.now) }
     {
-        self.entity_types.iter()
+        self.entity_types.as_map().values()
     }
 }
 

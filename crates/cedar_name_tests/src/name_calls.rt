@@ -142,20 +142,6 @@ fn extension_types(rt: HostRuntime) -> Result<(), Fail> {
 }
 
 #[test]
-fn escapes(rt: HostRuntime) -> Result<(), Fail> {
-    let rows = [
-        ("\u{7f}'é", "\\u{7f}\\'é"),
-        ("\0\t\r\n\"\\", "\\0\\t\\r\\n\\\"\\\\"),
-        ("\u{1}\u{1f}", "\\u{1}\\u{1f}"),
-        ("plain 😀", "plain 😀"),
-    ];
-    for (text, escaped) in rows {
-        assert_eq!(rt; escape(rt.alloc(), text)?.as_str(), escaped);
-    }
-    Ok(())
-}
-
-#[test]
 fn places(rt: HostRuntime) -> Result<(), Fail> {
     let text = "aé€😀";
     for start in 0..12usize {

@@ -1,0 +1,13 @@
+// SPDX-License-Identifier: Apache-2.0
+//! Tests of the base data and of names: worked examples as tables, and each call that may want memory
+//! once with enough of it.
+#![tactic(auto)]
+
+#[cfg(test)]
+mod data_calls;
+#[cfg(test)]
+mod escape_calls;
+#[cfg(test)]
+mod name_calls;
+#[cfg(test)]
+mod qualified_names;
