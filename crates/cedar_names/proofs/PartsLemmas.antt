@@ -9,9 +9,9 @@ use Rattle.std.specs.Cmp.{first_so, second_so}
 use Rattle.std.specs.List.{starts_with, list_all, prefix_len, take_while}
 use Rattle.std.specs.Str.{IsUtf8, IsCharBoundary}
 use Rattle.cedar_names.specs.Faults.{word_len, bad_token, token_at}
-use Rattle.cedar_names.specs.NormalNames.{grow, parts_behind, parts, part_fault, parts_fault, missing_word}
+use Rattle.cedar_names.specs.NormalNames.{grow, parts_behind, parts, part_fault, parts_fault}
 use Rattle.cedar_names.specs.Words.{is_word_start, is_word_byte, is_word}
-use Rattle.cedar_names.specs.declared.fault.NameFault.TheVariants.{BadToken}
+use Rattle.cedar_names.specs.declared.fault.NameFault.TheVariants.{Empty, BadToken}
 
 -- every text has a first part
 pub record HasFirst (ps : List (List ℕ)) : Type 0 where
@@ -211,9 +211,9 @@ module _ (s : List ℕ) (at : ℕ) (rest : List ℕ) (n : ℕ) (front : WordFron
       longer (b ∷ bs) p c qs word = refl
 
 -- no word begins where one has to
-pub fault-missing : (s : List ℕ) (at : ℕ) (rest : List ℕ) → rest ≡ drop at s → word_len rest ≡ 0 → parts_fault s at (parts rest) ≡ Some (missing_word at rest)
-fault-missing s at [] is none = refl
-fault-missing s at (c ∷ cs) is none = by_start (is_word_start c) refl none
+pub fault-missing : (s : List ℕ) (at : ℕ) (rest : List ℕ) → rest ≡ drop at s → 0 < length rest → word_len rest ≡ 0 → parts_fault s at (parts rest) ≡ Some (BadToken at (token_at rest))
+fault-missing s at [] is some none = absurd (omega arith)
+fault-missing s at (c ∷ cs) is some none = by_start (is_word_start c) refl none
   where
     at_colons : (ps : List (List ℕ)) → HasFirst ps → parts_fault s at ([] ∷ ps) ≡ Some (bad_token s at)
     at_colons ps has = rw has.is refl
@@ -225,7 +225,7 @@ fault-missing s at (c ∷ cs) is none = by_start (is_word_start c) refl none
         let here : at + 0 ≡ at = omega arith in
         ap (λ (ps : List (List ℕ)). parts_fault s at (grow c ps)) first.is ∙ rw (start, here) refl
 
-    by_start : (t : Bool) → is_word_start c ≡ t → cond t (1 + length (take_while is_word_byte cs)) 0 ≡ 0 → parts_fault s at (parts (c ∷ cs)) ≡ Some (missing_word at (c ∷ cs))
+    by_start : (t : Bool) → is_word_start c ≡ t → cond t (1 + length (take_while is_word_byte cs)) 0 ≡ 0 → parts_fault s at (parts (c ∷ cs)) ≡ Some (BadToken at (token_at (c ∷ cs)))
     by_start true start is_none = absurd (omega arith)
     by_start false start is_none = by_separator start (starts_with nat_eq (c ∷ cs) (codes "::")) refl ∙ ap (λ (l : List ℕ). Some (BadToken at (token_at l))) (sym is)
 
@@ -245,8 +245,8 @@ IsCharBoundary-colons after text e =
 
 module _ (s : List ℕ) (at : ℕ) (rest : List ℕ) (words : List (List ℕ)) (so_far : Parsed s at rest words) (n : ℕ) (counted : n ≡ word_len rest) where
   -- no word begins
-  pub Parsed-missing : n ≡ 0 → parts_fault s 0 (parts s) ≡ Some (missing_word at rest)
-  Parsed-missing none = so_far.fault ∙ fault-missing s at rest so_far.split (sym counted ∙ none)
+  pub Parsed-missing : 0 < length rest → n ≡ 0 → parts_fault s 0 (parts s) ≡ Some (BadToken at (token_at rest))
+  Parsed-missing some none = so_far.fault ∙ fault-missing s at rest so_far.split some (sym counted ∙ none)
 
   module _ (some : 0 < n) (word after : List ℕ) (word_is : word ≡ take n rest) (after_is : after ≡ drop n rest) where
     front : WordFront rest n
@@ -294,3 +294,9 @@ module _ (s : List ℕ) (at : ℕ) (rest : List ℕ) (words : List (List ℕ)) (
               ∙ sym (append_assoc words (word ∷ []) (parts (drop 2 after)));
           fault = so_far.fault ∙ fault-more s at rest n front found ∙ ap₂ (λ (k : ℕ) (l : List ℕ). parts_fault s k (parts (drop 2 l))) sum same_after;
         }
+
+-- the text ends where a word has to begin
+pub Parsed-open : (s : List ℕ) (at : ℕ) (rest : List ℕ) (words : List (List ℕ)) → Parsed s at rest words → length rest ≡ 0 → (parts_fault s 0 (parts s) ≡ Some Empty) × (words ++ [] ∷ [] ≡ parts s)
+Parsed-open s at rest words so_far none =
+    let last : rest ≡ [] = nil_from_length rest none in
+    (so_far.fault ∙ ap (λ (l : List ℕ). parts_fault s at (parts l)) last, sym (so_far.so_far ∙ ap (λ (l : List ℕ). words ++ parts l) last))

@@ -1,5 +1,5 @@
 -- SPDX-License-Identifier: Apache-2.0
-use Rattle.std.proofs.Common.{◌≡◌, ◌+◌, ◌^◌, ◌<◌, ◌≤◌, ◌==◌, ℕ, zero, suc, Bool, true, false, not, cond, List, [], ◌∷◌, ◌++◌, length, take, drop, get_or, Result, Ok, Err, refl, sym, subst, ap, ap₂, ◌∙◌, encode_utf8, arith, append_assoc, length-append, length-drop, inl, inr, Option, Some, None, ◌&&◌, nat_lt, nat_le, nat_eq, codes}
+use Rattle.std.proofs.Common.{◌≡◌, ◌+◌, ◌^◌, ◌<◌, ◌≤◌, ◌==◌, ℕ, zero, suc, Bool, true, false, not, cond, List, [], ◌∷◌, ◌++◌, length, take, drop, get_or, Result, Ok, Err, refl, sym, subst, ap, ap₂, ◌∙◌, encode_utf8, arith, append_assoc, length-append, length-drop, lit<, inl, inr, Option, Some, None, ◌&&◌, nat_lt, nat_le, nat_eq, codes}
 use lib.Utf8.{scalar}
 use borrow.Author.Tests.{eqb-true}
 use Rattle.std.proofs.Math.Nat.{pow-le-pow_right}
@@ -38,29 +38,33 @@ all_front (b ∷ bs) = by_digit (all_front bs) (is_ascii_hexdigit b) refl
 pub hex_front : (bs : List ℕ) (n : ℕ) → n ≡ length (take (prefix_len is_ascii_hexdigit bs) bs) → list_all is_ascii_hexdigit (take n bs) ≡ true
 hex_front bs n e = ap (λ k. list_all is_ascii_hexdigit (take k bs)) (e ∙ length-prefix_len is_ascii_hexdigit bs) ∙ all_front bs
 
--- ---- the bytes before a backslash
+-- ---- the bytes before a sign, as a backslash
 
--- the bytes before the first backslash, and the text from it
-pub record PlainFront (rest : List ℕ) (n : ℕ) : Type 0 where
+-- the byte is another
+abbrev pub is_other : ℕ → ℕ → Bool
+is_other stop b = not (b == stop)
+
+-- the bytes before the first such sign, and the text from it
+pub record PlainFront (stop : ℕ) (rest : List ℕ) (n : ℕ) : Type 0 where
   pub front : List ℕ
   pub escape : List ℕ
   pub is : rest ≡ front ++ escape
   pub len : length front ≡ n
-  pub plain : list_all is_plain front ≡ true
-  pub begins : (b : ℕ) (bs : List ℕ) → escape ≡ b ∷ bs → (b == 92) ≡ true
+  pub plain : list_all (is_other stop) front ≡ true
+  pub begins : (b : ℕ) (bs : List ℕ) → escape ≡ b ∷ bs → (b == stop) ≡ true
 
-plain_front_len : (bs : List ℕ) → PlainFront bs (prefix_len is_plain bs)
-plain_front_len [] = record { front = []; escape = []; is = refl; len = refl; plain = refl; begins = λ b bs e. cc }
-plain_front_len (b ∷ bs) = by_byte (plain_front_len bs) (b == 92) refl
+plain_front_len : (stop : ℕ) (bs : List ℕ) → PlainFront stop bs (prefix_len (is_other stop) bs)
+plain_front_len stop [] = record { front = []; escape = []; is = refl; len = refl; plain = refl; begins = λ b bs e. cc }
+plain_front_len stop (b ∷ bs) = by_byte (plain_front_len stop bs) (b == stop) refl
   where
-    by_byte : PlainFront bs (prefix_len is_plain bs) → (t : Bool) → (b == 92) ≡ t → PlainFront (b ∷ bs) (cond (not t) (1 + prefix_len is_plain bs) 0)
+    by_byte : PlainFront stop bs (prefix_len (is_other stop) bs) → (t : Bool) → (b == stop) ≡ t → PlainFront stop (b ∷ bs) (cond (not t) (1 + prefix_len (is_other stop) bs) 0)
     by_byte more true e = record {
       front = [];
       escape = b ∷ bs;
       is = refl;
       len = refl;
       plain = refl;
-      begins = λ c cs same. let head : b ≡ c = cc in subst (λ x. (x == 92) ≡ true) head e;
+      begins = λ c cs same. let head : b ≡ c = cc in subst (λ x. (x == stop) ≡ true) head e;
     }
     by_byte more false e = record {
       front = b ∷ more.front;
@@ -71,23 +75,26 @@ plain_front_len (b ∷ bs) = by_byte (plain_front_len bs) (b == 92) refl
       begins = more.begins;
     }
 
-pub plain_front : (rest : List ℕ) (n : ℕ) → n ≡ length (take (prefix_len is_plain rest) rest) → PlainFront rest n
-plain_front rest n e = subst (PlainFront rest) (sym (e ∙ length-prefix_len is_plain rest)) (plain_front_len rest)
+pub plain_front : (stop : ℕ) (rest : List ℕ) (n : ℕ) → n ≡ length (take (prefix_len (is_other stop) rest) rest) → PlainFront stop rest n
+plain_front stop rest n e = subst (PlainFront stop rest) (sym (e ∙ length-prefix_len (is_other stop) rest)) (plain_front_len stop rest)
 
--- a text may be cut before its first backslash
-pub IsCharBoundary-plain : (s : List ℕ) (n : ℕ) → IsUtf8 s → n ≡ length (take (prefix_len is_plain s) s) → IsCharBoundary s n
-IsCharBoundary-plain s n text e = by_escape (plain_front s n e) _ refl
+-- a text may be cut before its first such sign, where the sign is of ASCII
+pub IsCharBoundary-before_sign : (stop : ℕ) (s : List ℕ) (n : ℕ) → stop < 128 → IsUtf8 s → n ≡ length (take (prefix_len (is_other stop) s) s) → IsCharBoundary s n
+IsCharBoundary-before_sign stop s n low text e = by_escape (plain_front stop s n e) _ refl
   where
-    by_escape : (f : PlainFront s n) (l : List ℕ) → f.escape ≡ l → IsCharBoundary s n
+    by_escape : (f : PlainFront stop s n) (l : List ℕ) → f.escape ≡ l → IsCharBoundary s n
     by_escape f [] is =
         let whole : length s ≡ n = ap length (f.is ∙ ap (λ (l : List ℕ). f.front ++ l) is ∙ append-nil f.front) ∙ f.len in
         subst (IsCharBoundary s) whole (IsCharBoundary-end s)
     by_escape f (b ∷ bs) is =
-        let here : b ≡ 92 = eqb-true b 92 (f.begins b bs is) in
+        let here : b ≡ stop = eqb-true b stop (f.begins b bs is) in
         let front_is : s ≡ f.front ++ (b ∷ bs) = f.is ∙ ap (λ (l : List ℕ). f.front ++ l) is in
         let at : get_or s n 0 ≡ b = ap (λ (l : List ℕ). get_or l n 0) front_is ∙ ap (λ k. get_or (f.front ++ b ∷ bs) k 0) (sym f.len) ∙ get_or-append_seam f.front b bs 0 in
         let within : n < length s = omega (arith, ap length front_is, length-append f.front (b ∷ bs), f.len) in
         IsCharBoundary-before_ascii s n within (omega arith)
+
+pub IsCharBoundary-plain : (s : List ℕ) (n : ℕ) → IsUtf8 s → n ≡ length (take (prefix_len is_plain s) s) → IsCharBoundary s n
+IsCharBoundary-plain s n text e = IsCharBoundary-before_sign 92 s n (lit< tt) text e
 
 -- ---- what a text stands for
 
@@ -221,8 +228,8 @@ pub record Unescaping (body : List ℕ) (at : ℕ) (rest text : List ℕ) : Type
 
 module _ (body : List ℕ) (at : ℕ) (rest text : List ℕ) (so_far : Unescaping body at rest text) (n : ℕ) (counted : n ≡ length (take (prefix_len is_plain rest) rest))
     (front escape : List ℕ) (front_is : front ≡ take n rest) (escape_is : escape ≡ drop n rest) where
-  parts : PlainFront rest n
-  parts = plain_front rest n counted
+  parts : PlainFront 92 rest n
+  parts = plain_front 92 rest n counted
 
   same_front : parts.front ≡ front
   same_front = sym (take_at parts.front parts.escape n parts.len) ∙ ap (take n) (sym parts.is) ∙ sym front_is

@@ -15,6 +15,7 @@ pub mod Faults
 pub mod HashLaws
 pub mod Identifiers
 pub mod Lists
+pub mod Literals
 pub mod Names
 pub mod NormalNames
 pub mod Order

@@ -1,7 +1,7 @@
 -- SPDX-License-Identifier: Apache-2.0
 use Rattle.std.specs.Prelude.{ℕ, zero, suc, ◌+◌, Bool, true, false, if◌then◌else◌, List, [], ◌∷◌, length, nat_eq, codes, Option, Some, None}
 use Rattle.std.specs.List.{starts_with}
-use Rattle.cedar_names.specs.Faults.{word_len, bad_token, token_at, first_fault, no_id, no_unreserved_id}
+use Rattle.cedar_names.specs.Faults.{word_len, bad_token, first_fault, no_id, no_unreserved_id}
 use Rattle.cedar_names.specs.Words.{is_word}
 use Rattle.cedar_names.specs.declared.fault.NameFault.{NameFault}
 use Rattle.cedar_names.specs.declared.fault.NameFault.TheVariants.{Empty, BadToken, Reserved}
@@ -27,11 +27,6 @@ part_fault s at [] [] = Empty
 part_fault s at [] (q ∷ qs) = bad_token s at
 part_fault s at (b ∷ bs) ps = bad_token s (at + word_len (b ∷ bs))
 
--- what is wrong where a word has to begin at this place and none does, before the rest of the text
-abbrev pub missing_word : ℕ → List ℕ → NameFault
-missing_word at [] = Empty
-missing_word at (b ∷ bs) = BadToken at (token_at (b ∷ bs))
-
 -- what is wrong with the first part that is no word; the parts begin at this place of the text
 abbrev pub parts_fault : List ℕ → ℕ → List (List ℕ) → Option NameFault
 parts_fault s at [] = None
@@ -50,3 +45,18 @@ name_fault excluded s = first_fault (parts_fault s 0 (parts s)) (words_fault exc
 abbrev pub excluded_words : Bool → List ℕ → Bool
 excluded_words true = no_id
 excluded_words false = no_unreserved_id
+
+-- a text that ends where a word has to begin, and one that doesn't: what is wrong with it, and its last part that is no word
+abbrev pub end_fault : Bool → Option NameFault
+end_fault true = Some Empty
+end_fault false = None
+
+abbrev pub open_part : Bool → List (List ℕ)
+open_part true = [] ∷ []
+open_part false = []
+
+-- the fault is that the text ends too early
+abbrev pub is_empty_fault : NameFault → Bool
+is_empty_fault Empty = true
+is_empty_fault (BadToken at token) = false
+is_empty_fault (Reserved word) = false

@@ -1,12 +1,19 @@
 // SPDX-License-Identifier: Apache-2.0
-ghost use Rattle.std.specs.Prelude.{◌≡◌, Some};
+ghost use Rattle.std.specs.Prelude.{◌≡◌, Some, None, IfOk};
 ghost use Rattle.std.specs.Option.{option_copied};
+ghost use Rattle.cedar_names.specs.Components.{loc_of};
+ghost use Rattle.cedar_names.specs.Failures.{IfRefused};
+ghost use Rattle.cedar_names.specs.Literals.{uid_fault, WritesUid};
+ghost use Rattle.cedar_names.specs.Names.{internal_of, name_of, entity_words};
 ghost use Rattle.cedar_names.specs.EntityUids.{eid_text, entity_uid, entity_type_of, eid_of, place_of, uid_text};
 
 use crate::escapes::Escaped;
+use crate::fault::NameFault;
+use crate::form::parts_of;
+use crate::literal::{quote_place, read_literal, words_before_quote};
 use crate::location::Loc;
-use crate::name::EntityType;
-use cedar_data::{Dup, Mem, Text};
+use crate::name::{EntityType, Name};
+use cedar_data::{Dup, Failure, Mem, Out, Text};
 use std::alloc::Global;
 use std::fmt;
 
@@ -63,6 +70,26 @@ impl EntityUID {
         ensures { result ≡ entity_uid ty eid loc }
     {
         EntityUID { ty, eid, loc }
+    }
+
+    /// The entity that the text writes: the name of its type as `Name::from_normalized_str` takes it, `::`, and its id
+    /// as a string literal. It has no place. Refused with what is wrong with the text.
+    pub fn from_normalized_str(alloc: Global, s: &str) -> Out<EntityUID, NameFault>
+        ensures ok { IfOk result (λ uid. uid_fault s.now ≡ None) }
+        ensures written { IfOk result (λ uid. WritesUid s.now (entity_words (entity_type_of uid)) (eid_text (eid_of uid))) }
+        ensures place { IfOk result (λ uid. (place_of uid ≡ None) × (loc_of (internal_of (name_of (entity_type_of uid))) ≡ None)) }
+        ensures refused { IfRefused result (λ fault. uid_fault s.now ≡ Some fault) }
+    {
+        let (front, quoted) = s.split_at(quote_place(s));
+        if quoted.is_empty() {
+            parts_of(alloc, front)?;
+            return Err(Failure::Refused(NameFault::Empty));
+        }
+        let words = words_before_quote(alloc, front)?;
+        let text = read_literal(alloc, front.len() + 1, quoted.split_at(1).1)?;
+        let name = Name::of_words(alloc, words)?;
+        let ty = EntityType::from_name(name);
+        Ok(EntityUID::from_components(ty, Eid::new(text), None))
     }
 
     /// The type and the id.

@@ -6,13 +6,13 @@ use std::alloc::Global;
 use std::error::Error;
 use std::fmt;
 
-/// What is wrong with a text that has to be a name.
+/// What is wrong with a text that has to be a name, or an entity.
 #[derive(Debug, Drop, PartialEq, Eq)]
 pub enum NameFault {
-    /// The text ends where an identifier has to begin.
+    /// The text ends where an identifier has to begin; of an entity, also behind the name, or within the literal.
     Empty,
-    /// The text goes on otherwise than a name may at the byte offset `at`. The token is `::` where two colons stand
-    /// there, and else the one character.
+    /// The text goes on otherwise than it may at the byte offset `at`. The token is `::` where two colons stand there,
+    /// and else the one character. A bad escape has its backslash, and so has one before a line feed.
     BadToken { at: usize, token: Text },
     /// The form is right, and an identifier is a word that may not stand there.
     Reserved { word: Text },

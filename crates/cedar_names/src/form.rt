@@ -1,10 +1,10 @@
 // SPDX-License-Identifier: Apache-2.0
-ghost use Rattle.std.specs.Prelude.{◌≡◌, ◌≤◌, length, Some, None, IfOk, IsErr};
+ghost use Rattle.std.specs.Prelude.{◌≡◌, ◌≤◌, ◌++◌, false, length, Some, None, IfOk, IsErr};
 ghost use Rattle.std.specs.List.{take_while};
 ghost use Rattle.std.specs.Str.{IsCharBoundary};
 ghost use Rattle.cedar_names.specs.Failures.{IfRefused};
 ghost use Rattle.cedar_names.specs.Faults.{token_at, word_len, form_fault};
-ghost use Rattle.cedar_names.specs.NormalNames.{parts, parts_fault, missing_word};
+ghost use Rattle.cedar_names.specs.NormalNames.{parts, parts_fault, end_fault, open_part, is_empty_fault};
 ghost use Rattle.cedar_names.specs.Words.{is_word_byte};
 ghost use Rattle.cedar_names.specs.declared.fault.NameFault.TheVariants.{BadToken, Reserved};
 
@@ -46,7 +46,7 @@ fn word_len(s: &str) -> usize
 }
 
 /// The fault that a text goes on otherwise than it may at `at`, where `rest` is what it has there.
-fn bad_token(alloc: Global, at: usize, rest: &str) -> Mem<NameFault>
+pub fn bad_token(alloc: Global, at: usize, rest: &str) -> Mem<NameFault>
     ensures { IfOk result (λ fault. fault ≡ BadToken at (token_at rest.now)) }
 {
     let token = Text::new(alloc, token_at(rest))?;
@@ -69,34 +69,35 @@ pub fn check_form(alloc: Global, s: &str) -> Out<(), NameFault>
     Err(Failure::Refused(fault))
 }
 
-/// The fault that a word has to begin at `at`, where `rest` is what the text has there.
-fn missing_word(alloc: Global, at: usize, rest: &str) -> Mem<NameFault>
-    ensures { IfOk result (λ fault. fault ≡ missing_word at rest.now) }
-{
-    if rest.is_empty() {
-        return Ok(NameFault::Empty);
-    }
-    bad_token(alloc, at, rest)
+/// The words of a text between `::`. Where `open` is set, the text ends where one more word has to begin.
+#[derive(Drop)]
+pub struct Parts {
+    pub words: Vec<Text>,
+    pub open: bool,
 }
 
-/// The words of a text between `::`; refused with what is wrong with its form.
-pub fn parts_of(alloc: Global, s: &str) -> Out<Vec<Text>, NameFault>
-    ensures ok { IfOk result (λ words. (parts_fault s.now 0 (parts s.now) ≡ None) × (words.items ≡ parts s.now)) }
-    ensures refused { IfRefused result (λ fault. parts_fault s.now 0 (parts s.now) ≡ Some fault) }
+/// The words of a text between `::`; refused with what is wrong with its form, but for its end where a word has to
+/// begin.
+pub fn scan_parts(alloc: Global, s: &str) -> Out<Parts, NameFault>
+    ensures ok { IfOk result (λ found. (parts_fault s.now 0 (parts s.now) ≡ end_fault found.open) × (found.words.items ++ open_part found.open ≡ parts s.now)) }
+    ensures refused { IfRefused result (λ fault. (parts_fault s.now 0 (parts s.now) ≡ Some fault) × (is_empty_fault fault ≡ false)) }
 {
     let mut words = Vec::new(alloc);
     let mut rest = s;
     let mut at = 0;
     'parts: loop {
+        if rest.is_empty() {
+            return Ok(Parts { words, open: true });
+        }
         let len = word_len(rest);
         if len == 0 {
-            let fault = missing_word(alloc, at, rest)?;
+            let fault = bad_token(alloc, at, rest)?;
             return Err(Failure::Refused(fault));
         }
         let (word, after) = rest.split_at(len);
         words.push(Text::new(alloc, word)?)?;
         if after.is_empty() {
-            return Ok(words);
+            return Ok(Parts { words, open: false });
         }
         if !after.as_bytes().starts_with(b"::") {
             let fault = bad_token(alloc, at + len, after)?;
@@ -105,6 +106,18 @@ pub fn parts_of(alloc: Global, s: &str) -> Out<Vec<Text>, NameFault>
         rest = after.split_at(2).1;
         at += len + 2;
     }
+}
+
+/// The words of a text between `::`; refused with what is wrong with its form.
+pub fn parts_of(alloc: Global, s: &str) -> Out<Vec<Text>, NameFault>
+    ensures ok { IfOk result (λ words. (parts_fault s.now 0 (parts s.now) ≡ None) × (words.items ≡ parts s.now)) }
+    ensures refused { IfRefused result (λ fault. parts_fault s.now 0 (parts s.now) ≡ Some fault) }
+{
+    let Parts { words, open } = scan_parts(alloc, s)?;
+    if open {
+        return Err(Failure::Refused(NameFault::Empty));
+    }
+    Ok(words)
 }
 
 /// The refusal of a word that may not stand where it does.

@@ -1,5 +1,5 @@
 // SPDX-License-Identifier: Apache-2.0
-ghost use Rattle.std.specs.Prelude.{◌≡◌, [], ◌∷◌, ◌++◌, ◌↔◌, Some, None, refl, IsTrue, IfOk, codes};
+ghost use Rattle.std.specs.Prelude.{◌≡◌, ◌≢◌, [], ◌∷◌, ◌++◌, ◌↔◌, Some, None, refl, IsTrue, IfOk, codes};
 ghost use Rattle.std.specs.List.{list_any};
 ghost use Rattle.std.specs.Option.{option_copied};
 ghost use Rattle.std.specs.Slice.Iter.{iter_rest};
@@ -120,7 +120,8 @@ impl InternalName {
     /// The name within the namespace that `ns` names, unless it has a namespace already; the name itself where there is
     /// no `ns`. The place stays.
     pub fn qualify_with(self, alloc: Global, ns: Option<&InternalName>) -> Mem<InternalName>
-        ensures { IfOk result (λ n. n ≡ qualified self (option_copied ns.entry)) }
+        ensures value { IfOk result (λ n. n ≡ qualified self (option_copied ns.entry)) }
+        ensures kept { IfOk result (λ n. namespace_of self ≢ [] → n ≡ self) }
     {
         let Some(outer) = ns else { return Ok(self) };
         if !self.is_unqualified() {

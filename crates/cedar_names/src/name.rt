@@ -1,18 +1,20 @@
 // SPDX-License-Identifier: Apache-2.0
-ghost use Rattle.std.specs.Prelude.{◌≡◌, [], Some, None, not, true, false, IsTrue, IfOk, MatchResult, codes};
+ghost use Rattle.std.specs.Prelude.{◌≡◌, ◌≢◌, ◌<◌, [], Some, None, not, true, false, IsTrue, IfOk, MatchResult, codes, vec_len};
+ghost use Rattle.std.specs.List.{list_all};
 ghost use Rattle.std.specs.Option.{option_copied, option_map};
 ghost use Rattle.std.specs.Str.{bytes_eq};
 ghost use Rattle.cedar_names.specs.Failures.{IfRefused};
 ghost use Rattle.cedar_names.specs.Faults.{no_unreserved_id};
-ghost use Rattle.cedar_names.specs.NormalNames.{name_fault, parts};
-ghost use Rattle.cedar_names.specs.Components.{internal_name, components, has_cedar, joined, loc_of, basename_of, qualified};
+ghost use Rattle.cedar_names.specs.NormalNames.{name_fault, parts, words_fault};
+ghost use Rattle.cedar_names.specs.Words.{is_word};
+ghost use Rattle.cedar_names.specs.Components.{internal_name, components, has_cedar, joined, loc_of, basename_of, namespace_of, qualified};
 
 use crate::fault::NameFault;
 use crate::id::{Id, UnreservedId};
 use crate::internal_name::{InternalName, ReservedNameError};
 use crate::location::Loc;
-use crate::normal_name::{name_of_ids, normalized_ids};
-use cedar_data::{Dup, Mem, Out};
+use crate::normal_name::{name_of_ids, normalized_ids, unreserved_name};
+use cedar_data::{Dup, Mem, Out, Text};
 use std::alloc::Global;
 use std::fmt;
 use std::fmt::Display;
@@ -52,6 +54,17 @@ impl Name {
         Ok(Name { internal })
     }
 
+    /// The name of words, with no place; refused with the first of them that a `Name` excludes.
+    pub fn of_words(alloc: Global, words: Vec<Text>) -> Out<Name, NameFault>
+        requires words { list_all is_word words.items ≡ true }
+        requires some { 0 < vec_len words }
+        ensures ok { IfOk result (λ n. (words_fault no_unreserved_id words.items ≡ None) × (name_words n ≡ words.items) × (loc_of (internal_of n) ≡ None)) }
+        ensures refused { IfRefused result (λ fault. words_fault no_unreserved_id words.items ≡ Some fault) }
+    {
+        let internal = unreserved_name(alloc, words)?;
+        Ok(Name { internal })
+    }
+
     /// The same name, as one that may have any component.
     pub fn as_internal(&self) -> &InternalName
         ensures { result.now ≡ internal_of self.now }
@@ -88,7 +101,8 @@ impl InternalName {
 
     /// As `qualify_with`, within the namespace that a `Name` names.
     pub fn qualify_with_name(self, alloc: Global, ns: Option<&Name>) -> Mem<InternalName>
-        ensures { IfOk result (λ n. n ≡ qualified self (option_map internal_of (option_copied ns.entry))) }
+        ensures value { IfOk result (λ n. n ≡ qualified self (option_map internal_of (option_copied ns.entry))) }
+        ensures kept { IfOk result (λ n. namespace_of self ≢ [] → n ≡ self) }
     {
         match ns {
             Some(name) => self.qualify_with(alloc, Some(name.as_internal())),

@@ -3,6 +3,7 @@ ghost use Rattle.std.specs.Prelude.{◌≡◌, [], ◌<◌, Some, None, true, fa
 ghost use Rattle.std.specs.List.{list_all};
 ghost use Rattle.cedar_names.specs.Components.{components, has_cedar, joined, loc_of};
 ghost use Rattle.cedar_names.specs.Failures.{IfRefused};
+ghost use Rattle.cedar_names.specs.Faults.{no_unreserved_id};
 ghost use Rattle.cedar_names.specs.Identifiers.{id_words};
 ghost use Rattle.cedar_names.specs.NormalNames.{parts, words_fault, name_fault, excluded_words};
 ghost use Rattle.cedar_names.specs.Words.{is_word};
@@ -61,4 +62,16 @@ pub fn name_of_ids(mut ids: Vec<Id>) -> InternalName
         Some(basename) => InternalName::new(basename, ids, None),
         None => unreachable!(),
     }
+}
+
+/// The name of words, with no place; refused with the first of them that a `Name` excludes.
+pub fn unreserved_name(alloc: Global, words: Vec<Text>) -> Out<InternalName, NameFault>
+    requires words { list_all is_word words.items ≡ true }
+    requires some { 0 < vec_len words }
+    ensures ok { IfOk result (λ n. (words_fault no_unreserved_id words.items ≡ None) × (components n ≡ words.items) × (loc_of n ≡ None)) }
+    ensures unreserved { IfOk result (λ n. has_cedar (components n) ≡ false) }
+    ensures refused { IfRefused result (λ fault. words_fault no_unreserved_id words.items ≡ Some fault) }
+{
+    let ids = ids_of(alloc, words, false)?;
+    Ok(name_of_ids(ids))
 }

@@ -1,9 +1,10 @@
 // SPDX-License-Identifier: Apache-2.0
-ghost use Rattle.std.specs.Prelude.{◌≡◌, ◌+◌, ◌-◌, ◌<◌, ◌≤◌, length, take, true, Some, None, Ok, Err, IfOk, codes, String};
+ghost use Rattle.std.specs.Prelude.{◌≡◌, ℕ, List, ◌+◌, ◌-◌, ◌<◌, ◌≤◌, length, take, true, Some, None, Ok, Err, IfOk, codes, String};
 ghost use Rattle.std.specs.Char.{is_ascii_hexdigit, digit_value};
 ghost use Rattle.std.specs.List.{list_all, prefix_len};
 ghost use Rattle.std.specs.Str.{IsCharBoundary};
 ghost use Rattle.std.specs.String.{string_bytes};
+ghost use Rattle.cedar_names.specs.Escapes.{escaped};
 ghost use Rattle.cedar_names.specs.Failures.{IfRefused};
 ghost use Rattle.cedar_names.specs.Unescaping.{sign_meaning, hex_value, hex_meaning, digits_meaning, braced_meaning, meaning_of, is_plain, unescaped};
 
@@ -169,6 +170,7 @@ fn plain_len(s: &str) -> usize
 pub fn unescape(alloc: Global, body: &str) -> Out<String, BadEscape>
     ensures ok { IfOk result (λ text. unescaped body.now ≡ Ok (string_bytes text)) }
     ensures refused { IfRefused result (λ bad. unescaped body.now ≡ Err bad.at) }
+    ensures within { IfRefused result (λ bad. bad.at < length body.now) }
 {
     let mut text = String::new(alloc);
     let mut rest = body;
@@ -189,3 +191,8 @@ pub fn unescape(alloc: Global, body: &str) -> Out<String, BadEscape>
         at += plain + 1 + meaning.len;
     }
 }
+
+/// The law that escaped text stands for the text itself. It does nothing.
+pub fn unescape_undoes_escape()
+    ensures { (s : List ℕ) → unescaped (escaped s) ≡ Ok s }
+{}

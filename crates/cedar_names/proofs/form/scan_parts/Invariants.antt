@@ -3,7 +3,7 @@ use denote.Text.{Utf8}
 use denote.Shadow.{shadow}
 use Rattle.std.proofs.Common.{length}
 use Rattle.cedar_names.proofs.PartsLemmas.{Parsed}
-use Rattle.cedar_names.proofs.form.parts_of.Given as goal
+use Rattle.cedar_names.proofs.form.scan_parts.Given as goal
 
 -- the rest is text, and the words before it are those of the text so far
 abbrev pub invariant-parts : goal.invariant-parts
