@@ -6,6 +6,8 @@
 #[cfg(test)]
 mod data_calls;
 #[cfg(test)]
+mod entity_uids;
+#[cfg(test)]
 mod escape_calls;
 #[cfg(test)]
 mod name_calls;

@@ -7,15 +7,15 @@ use Rattle.std.proofs.lemmas.List.Folds.{length-prefix_len}
 use Rattle.std.proofs.lemmas.Str.{IsCharBoundary-after_ascii, IsUtf8-drop}
 use Rattle.std.specs.List.{list_all, flat_map}
 use Rattle.std.specs.Str.{IsUtf8, IsCharBoundary}
-use Rattle.cedar_names.specs.Components.{joined}
-use Rattle.cedar_names.specs.Faults.{word_len, bad_token, first_fault, no_unreserved_id}
-use Rattle.cedar_names.specs.Literals.{literal_fault, ClosesLiteral, opened_fault, opening_fault, before_quote, split_fault, uid_fault, WritesUid}
-use Rattle.cedar_names.specs.NormalNames.{parts, part_fault, parts_fault, words_fault}
-use Rattle.cedar_names.specs.Words.{is_word}
-use Rattle.cedar_names.specs.declared.fault.NameFault.{NameFault}
-use Rattle.cedar_names.specs.declared.fault.NameFault.TheVariants.{Empty, BadToken, Reserved}
+use Rattle.cedar_text.specs.Joining.{joined}
+use Rattle.cedar_text.specs.Faults.{word_len, bad_token, first_fault, no_unreserved_id}
+use Rattle.cedar_text.specs.Literals.{literal_fault, ClosesLiteral, opened_fault, opening_fault, before_quote, split_fault, uid_fault, WritesUid}
+use Rattle.cedar_text.specs.NormalNames.{parts, part_fault, parts_fault, words_fault}
+use Rattle.cedar_text.specs.Words.{is_word}
+use Rattle.cedar_text.specs.declared.fault.NameFault.{NameFault}
+use Rattle.cedar_text.specs.declared.fault.NameFault.TheVariants.{Empty, BadToken, Reserved}
 use Rattle.cedar_names.proofs.NormalNameLemmas.{joined-parts}
-use Rattle.cedar_names.proofs.UnescapeLemmas.{is_other, PlainFront, plain_front}
+use Rattle.cedar_text.proofs.UnescapeLemmas.{is_other, PlainFront, plain_front}
 
 -- ---- the words before a quote
 

@@ -14,10 +14,10 @@ use Rattle.std.specs.declared.cmp.Ordering.{Ordering}
 use Rattle.std.specs.declared.cmp.Ordering.TheVariants.{Less, Equal, Greater}
 use Rattle.cedar_data.specs.Sets.{contains}
 use Rattle.cedar_names.specs.ExtensionFaults.{fault_before, naming_fault, extensions_fault}
-use Rattle.cedar_names.specs.Faults.{word_fault, no_unreserved_id}
+use Rattle.cedar_text.specs.Faults.{word_fault, no_unreserved_id}
 use Rattle.cedar_names.specs.Identifiers.{unreserved_word, unreserved_words}
 use Rattle.cedar_names.specs.Order.{word_cmp}
-use Rattle.cedar_names.specs.Words.{has_word, is_primitive_word}
+use Rattle.cedar_text.specs.Words.{has_word, is_primitive_word}
 use Rattle.cedar_names.specs.declared.extensions.ExtensionsFault.{ExtensionsFault}
 use Rattle.cedar_names.specs.declared.extensions.ExtensionsFault.TheVariants.{BadName, RepeatedName, PrimitiveName}
 use Rattle.cedar_names.specs.declared.id.UnreservedId.{UnreservedId}

@@ -1,7 +1,7 @@
 -- SPDX-License-Identifier: Apache-2.0
 use Rattle.std.proofs.Common.{◌≡◌, IsTrue, not, subst, ap}
 use Rattle.std.proofs.Props.{props}
-use Rattle.cedar_names.specs.Words.{is_cedar}
+use Rattle.cedar_text.specs.Words.{is_cedar}
 use Rattle.cedar_names.specs.declared.id.Id.{Id}
 use Rattle.cedar_names.specs.declared.id.UnreservedId.{UnreservedId}
 

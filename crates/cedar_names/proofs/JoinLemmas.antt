@@ -2,7 +2,7 @@
 use Rattle.std.proofs.Common.{◌≡◌, ◌≤◌, ℕ, List, [], ◌∷◌, ◌++◌, length, take, codes, sym, ap, ◌∙◌, append_assoc}
 use Rattle.std.proofs.lemmas.List.{append-nil, take_all}
 use Rattle.std.specs.List.{flat_map}
-use Rattle.cedar_names.specs.Components.{joined}
+use Rattle.cedar_text.specs.Joining.{joined}
 use Rattle.cedar_names.specs.Identifiers.{id_words}
 use Rattle.cedar_names.specs.declared.id.Id.{Id}
 

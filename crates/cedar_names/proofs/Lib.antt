@@ -1,16 +1,10 @@
 -- SPDX-License-Identifier: Apache-2.0
 pub mod AnnotationLemmas
-pub mod EscapeLemmas
 pub mod EntityUidLemmas
 pub mod ExtensionLemmas
-pub mod FormLemmas
 pub mod Ids
 pub mod JoinLemmas
-pub mod LiteralLemmas
 pub mod NameLemmas
 pub mod NameOrder
 pub mod NormalNameLemmas
-pub mod PartsLemmas
-pub mod UndoLemmas
-pub mod UnescapeLemmas
 pub mod WordsLemmas

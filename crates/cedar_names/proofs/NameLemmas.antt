@@ -2,7 +2,7 @@
 use Rattle.std.proofs.Common.{◌≡◌, ◌||◌, List, [], ◌∷◌, ◌++◌, IsTrue, not, true, false, Bool, refl, subst, ap}
 use Rattle.std.specs.List.{list_any}
 use Rattle.std.proofs.Props.{props}
-use Rattle.cedar_names.specs.Words.{is_cedar}
+use Rattle.cedar_text.specs.Words.{is_cedar}
 use Rattle.cedar_names.specs.Identifiers.{id_words}
 use Rattle.cedar_names.specs.Components.{components, has_cedar}
 use Rattle.cedar_names.specs.declared.id.Id.{Id}

@@ -1,14 +1,15 @@
 -- SPDX-License-Identifier: Apache-2.0
 use Rattle.std.proofs.Common.{◌≡◌, ◌+◌, ◌<◌, arith, ◌&&◌, ◌||◌, ℕ, zero, suc, Bool, true, false, cond, List, [], ◌∷◌, ◌++◌, length, drop, nat_eq, codes, refl, sym, ap, ◌∙◌, Some, None}
 use Rattle.std.specs.List.{list_all, starts_with}
-use Rattle.cedar_names.specs.Components.{joined, has_cedar}
-use Rattle.cedar_names.specs.Faults.{no_unreserved_id}
+use Rattle.cedar_names.specs.Components.{has_cedar}
+use Rattle.cedar_text.specs.Joining.{joined}
+use Rattle.cedar_text.specs.Faults.{no_unreserved_id}
 use Rattle.cedar_names.specs.Identifiers.{id_words}
-use Rattle.cedar_names.specs.NormalNames.{grow, parts_behind, parts, part_fault, parts_fault, words_fault, excluded_words}
-use Rattle.cedar_names.specs.Words.{is_word, is_cedar, is_reserved_word}
-use Rattle.cedar_names.specs.declared.fault.NameFault.TheVariants.{Reserved}
+use Rattle.cedar_text.specs.NormalNames.{grow, parts_behind, parts, part_fault, parts_fault, words_fault, excluded_words}
+use Rattle.cedar_text.specs.Words.{is_word, is_cedar, is_reserved_word}
+use Rattle.cedar_text.specs.declared.fault.NameFault.TheVariants.{Reserved}
 use Rattle.cedar_names.specs.declared.id.Id.{Id}
-use Rattle.cedar_names.proofs.PartsLemmas.{HasFirst, parts-first, colons}
+use Rattle.cedar_text.proofs.PartsLemmas.{HasFirst, parts-first, colons}
 
 -- the words before the rest are the identifiers, and none is excluded
 pub record Checked (excluded : List ℕ → Bool) (words rest : List (List ℕ)) (ids : List Id) : Type 0 where

@@ -1,11 +1,11 @@
 -- SPDX-License-Identifier: Apache-2.0
-use Rattle.std.specs.Prelude.{ℕ, Bool, List, [], ◌∷◌, ◌++◌, Option, Some, None, codes}
-use Rattle.std.specs.List.{list_any, flat_map}
+use Rattle.std.specs.Prelude.{ℕ, Bool, List, [], ◌∷◌, ◌++◌, Option, Some, None}
+use Rattle.std.specs.List.{list_any}
 use Rattle.cedar_names.specs.Identifiers.{id_words}
-use Rattle.cedar_names.specs.Words.{is_cedar}
+use Rattle.cedar_text.specs.Words.{is_cedar}
 use Rattle.cedar_names.specs.declared.id.Id.{Id}
 use Rattle.cedar_names.specs.declared.internal_name.InternalName.{InternalName}
-use Rattle.cedar_names.specs.declared.location.Loc.{Loc}
+use Rattle.cedar_text.specs.declared.location.Loc.{Loc}
 
 -- the name of this basename in this namespace, at this place
 abbrev pub internal_name : Id → List Id → Option Loc → InternalName
@@ -30,11 +30,6 @@ components n = id_words (n.namespace ++ n.basename ∷ [])
 -- some component is `__cedar`
 abbrev pub has_cedar : List (List ℕ) → Bool
 has_cedar ws = list_any is_cedar ws
-
--- the words with `::` between them
-abbrev pub joined : List (List ℕ) → List ℕ
-joined [] = []
-joined (w ∷ ws) = w ++ flat_map (λ v. codes "::" ++ v) ws
 
 -- the name itself where it has a namespace, else the name in this one
 abbrev pub in_namespace : List Id → InternalName → List Id → InternalName

@@ -1,11 +1,11 @@
 -- SPDX-License-Identifier: Apache-2.0
 use Rattle.std.specs.Prelude.{ℕ, List, ◌++◌, Option, codes}
-use Rattle.cedar_names.specs.Components.{joined}
-use Rattle.cedar_names.specs.Escapes.{escaped}
+use Rattle.cedar_text.specs.Joining.{joined}
+use Rattle.cedar_text.specs.Escapes.{escaped}
 use Rattle.cedar_names.specs.Names.{entity_words}
 use Rattle.cedar_names.specs.declared.entity_uid.Eid.{Eid}
 use Rattle.cedar_names.specs.declared.entity_uid.EntityUID.{EntityUID}
-use Rattle.cedar_names.specs.declared.location.Loc.{Loc}
+use Rattle.cedar_text.specs.declared.location.Loc.{Loc}
 use Rattle.cedar_names.specs.declared.name.EntityType.{EntityType}
 
 -- the text of an id

@@ -1,8 +1,8 @@
 -- SPDX-License-Identifier: Apache-2.0
 use Rattle.std.specs.Prelude.{ℕ, if◌then◌else◌, List, [], ◌∷◌, ◌++◌, length, Option, Some, None}
 use Rattle.std.specs.Option.{option_map}
-use Rattle.cedar_names.specs.Faults.{word_fault, no_unreserved_id}
-use Rattle.cedar_names.specs.Words.{has_word, is_primitive_word}
+use Rattle.cedar_text.specs.Faults.{word_fault, no_unreserved_id}
+use Rattle.cedar_text.specs.Words.{has_word, is_primitive_word}
 use Rattle.cedar_names.specs.declared.extensions.ExtensionsFault.{ExtensionsFault}
 use Rattle.cedar_names.specs.declared.extensions.ExtensionsFault.TheVariants.{BadName, RepeatedName, PrimitiveName}
 

@@ -8,8 +8,8 @@ ghost use Rattle.cedar_names.specs.Annotating.{annotation_entries, annotation_at
 ghost use Rattle.cedar_names.specs.Identifiers.{any_word};
 
 use crate::any_id::AnyId;
-use crate::location::Loc;
 use cedar_data::{Dup, Map, Mem, Text};
+use cedar_text::Loc;
 use std::alloc::Global;
 use std::collections::btree_map::Iter;
 

@@ -1,13 +1,11 @@
 // SPDX-License-Identifier: Apache-2.0
 ghost use Rattle.std.specs.Prelude.{◌≡◌, Some, None, IsTrue, false, IfOk, MatchOption};
-ghost use Rattle.cedar_names.specs.Failures.{IfRefused};
-ghost use Rattle.cedar_names.specs.Faults.{word_fault, no_any_id};
-ghost use Rattle.cedar_names.specs.Words.{is_word};
+ghost use Rattle.cedar_text.specs.Failures.{IfRefused};
+ghost use Rattle.cedar_text.specs.Faults.{word_fault, no_any_id};
+ghost use Rattle.cedar_text.specs.Words.{is_word};
 
-use crate::fault::NameFault;
-use crate::form::check_form;
-use crate::words::is_word;
 use cedar_data::{Dup, Mem, Out, Text};
+use cedar_text::{NameFault, check_form, is_word};
 use std::alloc::Global;
 use std::fmt;
 use std::fmt::Display;

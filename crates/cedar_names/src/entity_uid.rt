@@ -2,18 +2,16 @@
 ghost use Rattle.std.specs.Prelude.{◌≡◌, Some, None, IfOk};
 ghost use Rattle.std.specs.Option.{option_copied};
 ghost use Rattle.cedar_names.specs.Components.{loc_of};
-ghost use Rattle.cedar_names.specs.Failures.{IfRefused};
-ghost use Rattle.cedar_names.specs.Literals.{uid_fault, WritesUid};
+ghost use Rattle.cedar_text.specs.Failures.{IfRefused};
+ghost use Rattle.cedar_text.specs.Literals.{uid_fault, WritesUid};
 ghost use Rattle.cedar_names.specs.Names.{internal_of, name_of, entity_words};
 ghost use Rattle.cedar_names.specs.EntityUids.{eid_text, entity_uid, entity_type_of, eid_of, place_of, uid_text};
 
-use crate::escapes::Escaped;
-use crate::fault::NameFault;
-use crate::form::parts_of;
-use crate::literal::{quote_place, read_literal, words_before_quote};
-use crate::location::Loc;
 use crate::name::{EntityType, Name};
 use cedar_data::{Dup, Failure, Mem, Out, Text};
+use cedar_text::{
+    Escaped, Loc, NameFault, parts_of, quote_place, read_literal, words_before_quote,
+};
 use std::alloc::Global;
 use std::fmt;
 

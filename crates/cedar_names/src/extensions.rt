@@ -3,15 +3,14 @@ ghost use Rattle.std.specs.Prelude.{◌≡◌, [], ◌∷◌, ◌++◌, ℕ, Lis
 ghost use Rattle.std.specs.List.{list_any};
 ghost use Rattle.std.specs.List.Sorted.{IsStrictlySortedBy};
 ghost use Rattle.cedar_names.specs.ExtensionFaults.{naming_fault, extensions_fault};
-ghost use Rattle.cedar_names.specs.Failures.{IfRefused};
+ghost use Rattle.cedar_text.specs.Failures.{IfRefused};
 ghost use Rattle.cedar_names.specs.Identifiers.{unreserved_word, unreserved_words};
 ghost use Rattle.cedar_names.specs.Order.{word_cmp};
-ghost use Rattle.cedar_names.specs.Words.{has_word, is_primitive_word, is_unreserved_id};
+ghost use Rattle.cedar_text.specs.Words.{has_word, is_primitive_word, is_unreserved_id};
 
-use crate::fault::NameFault;
 use crate::id::UnreservedId;
-use crate::words::is_primitive_word;
 use cedar_data::{Dup, Failure, Mem, Out, Set, Text};
+use cedar_text::{NameFault, is_primitive_word};
 use std::alloc::Global;
 use std::collections::btree_set::Iter;
 use std::error::Error;

@@ -1,14 +1,12 @@
 // SPDX-License-Identifier: Apache-2.0
 ghost use Rattle.std.specs.Prelude.{◌≡◌, [], Some, None, true, false, not, IsTrue, IfOk, MatchOption, MatchResult, codes};
-ghost use Rattle.cedar_names.specs.Failures.{IfRefused};
-ghost use Rattle.cedar_names.specs.Faults.{word_fault, no_id, no_unreserved_id};
-ghost use Rattle.cedar_names.specs.Words.{is_id, is_cedar, is_unreserved_id};
+ghost use Rattle.cedar_text.specs.Failures.{IfRefused};
+ghost use Rattle.cedar_text.specs.Faults.{word_fault, no_id, no_unreserved_id};
+ghost use Rattle.cedar_text.specs.Words.{is_id, is_cedar, is_unreserved_id};
 
-use crate::fault::NameFault;
-use crate::form::{check_form, reserved};
 use crate::internal_name::{InternalName, ReservedNameError};
-use crate::words::{is_cedar, is_reserved_word, is_word};
 use cedar_data::{Dup, Mem, Out, Text};
+use cedar_text::{NameFault, check_form, is_cedar, is_reserved_word, is_word, reserved};
 use std::alloc::Global;
 use std::fmt;
 use std::fmt::Display;

@@ -3,18 +3,18 @@ ghost use Rattle.std.specs.Prelude.{◌≡◌, ◌≢◌, ◌<◌, [], Some, Non
 ghost use Rattle.std.specs.List.{list_all};
 ghost use Rattle.std.specs.Option.{option_copied, option_map};
 ghost use Rattle.std.specs.Str.{bytes_eq};
-ghost use Rattle.cedar_names.specs.Failures.{IfRefused};
-ghost use Rattle.cedar_names.specs.Faults.{no_unreserved_id};
-ghost use Rattle.cedar_names.specs.NormalNames.{name_fault, parts, words_fault};
-ghost use Rattle.cedar_names.specs.Words.{is_word};
-ghost use Rattle.cedar_names.specs.Components.{internal_name, components, has_cedar, joined, loc_of, basename_of, namespace_of, qualified};
+ghost use Rattle.cedar_text.specs.Failures.{IfRefused};
+ghost use Rattle.cedar_text.specs.Faults.{no_unreserved_id};
+ghost use Rattle.cedar_text.specs.NormalNames.{name_fault, parts, words_fault};
+ghost use Rattle.cedar_text.specs.Words.{is_word};
+ghost use Rattle.cedar_names.specs.Components.{internal_name, components, has_cedar, loc_of, basename_of, namespace_of, qualified};
+ghost use Rattle.cedar_text.specs.Joining.{joined};
 
-use crate::fault::NameFault;
 use crate::id::{Id, UnreservedId};
 use crate::internal_name::{InternalName, ReservedNameError};
-use crate::location::Loc;
 use crate::normal_name::{name_of_ids, normalized_ids, unreserved_name};
 use cedar_data::{Dup, Mem, Out, Text};
+use cedar_text::{Loc, NameFault};
 use std::alloc::Global;
 use std::fmt;
 use std::fmt::Display;

@@ -1,19 +1,18 @@
 // SPDX-License-Identifier: Apache-2.0
 ghost use Rattle.std.specs.Prelude.{◌≡◌, [], ◌<◌, Some, None, true, false, IfOk, vec_len};
 ghost use Rattle.std.specs.List.{list_all};
-ghost use Rattle.cedar_names.specs.Components.{components, has_cedar, joined, loc_of};
-ghost use Rattle.cedar_names.specs.Failures.{IfRefused};
-ghost use Rattle.cedar_names.specs.Faults.{no_unreserved_id};
+ghost use Rattle.cedar_names.specs.Components.{components, has_cedar, loc_of};
+ghost use Rattle.cedar_text.specs.Joining.{joined};
+ghost use Rattle.cedar_text.specs.Failures.{IfRefused};
+ghost use Rattle.cedar_text.specs.Faults.{no_unreserved_id};
 ghost use Rattle.cedar_names.specs.Identifiers.{id_words};
-ghost use Rattle.cedar_names.specs.NormalNames.{parts, words_fault, name_fault, excluded_words};
-ghost use Rattle.cedar_names.specs.Words.{is_word};
+ghost use Rattle.cedar_text.specs.NormalNames.{parts, words_fault, name_fault, excluded_words};
+ghost use Rattle.cedar_text.specs.Words.{is_word};
 
-use crate::fault::NameFault;
-use crate::form::parts_of;
 use crate::id::Id;
 use crate::internal_name::InternalName;
-use crate::words::{is_cedar, is_reserved_word};
 use cedar_data::{Failure, Out, Text};
+use cedar_text::{NameFault, is_cedar, is_reserved_word, parts_of};
 use std::alloc::Global;
 
 /// Whether a name excludes the word, where `__cedar` is allowed and where it is not.

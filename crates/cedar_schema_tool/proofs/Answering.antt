@@ -2,7 +2,7 @@
 -- From what was read and how it was answered to what the run did.
 use Rattle.std.proofs.Common.{◌≡◌, ℕ, ◌<◌, Bool, List, [], length, Option, Some, IfSome, inl, inr, refl, ap, sym, ◌∙◌, subst, arith, IsUtf8}
 use Rattle.cedar_names.specs.Extensions.{extension_words}
-use Rattle.cedar_names.specs.Words.{has_word}
+use Rattle.cedar_text.specs.Words.{has_word}
 use Rattle.cedar_names.specs.declared.extensions.Extensions.{Extensions}
 use Rattle.cedar_validator.specs.WellFormed.{IsWellFormed, Cause}
 use Rattle.cedar_validator.specs.declared.errors.CedarSchemaError.{CedarSchemaError}

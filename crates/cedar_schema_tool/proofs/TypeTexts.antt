@@ -3,7 +3,7 @@
 use Rattle.std.proofs.Common.{◌≡◌, ℕ, suc, List, [], ◌∷◌, ◌++◌, Option, Result, map, refl, ap, sym, ◌∙◌, subst, codes, arith}
 use Rattle.std.specs.Prelude.{EachIndex, slice_index}
 use Rattle.std.proofs.lemmas.Simd.{map-map}
-use Rattle.cedar_names.specs.Escapes.{escaped, escaped_byte}
+use Rattle.cedar_text.specs.Escapes.{escaped, escaped_byte}
 use Rattle.cedar_streams.specs.Texts.{◌+++◌, joined}
 use Rattle.cedar_streams.specs.Writes.{Writes}
 use Rattle.cedar_types.proofs.Folds.{layer_of, fold_type-layer, fold_attribute-parts, fold_attributes-entries}

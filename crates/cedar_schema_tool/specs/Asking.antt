@@ -3,7 +3,7 @@
 use Rattle.std.specs.Prelude.{◌≡◌, ℕ, List, [], ◌∷◌, Option, None, MatchOption, codes}
 use Rattle.cedar_names.specs.ExtensionFaults.{extensions_fault}
 use Rattle.cedar_names.specs.Extensions.{extension_words}
-use Rattle.cedar_names.specs.Words.{has_word}
+use Rattle.cedar_text.specs.Words.{has_word}
 use Rattle.cedar_names.specs.declared.extensions.Extensions.{Extensions}
 use Rattle.cedar_schema_tool.specs.CommandLine.{Asks, ext_words}
 

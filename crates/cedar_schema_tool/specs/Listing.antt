@@ -2,7 +2,7 @@
 -- The text of a schema: a line for each entity type.
 use Rattle.std.specs.Prelude.{ℕ, Bool, List, [], map, flat_map, if◌then◌else◌, codes}
 use Rattle.std.specs.Map.{values_of}
-use Rattle.cedar_names.specs.Escapes.{escaped}
+use Rattle.cedar_text.specs.Escapes.{escaped}
 use Rattle.cedar_names.specs.Names.{name_words, entity_words}
 use Rattle.cedar_streams.specs.Texts.{◌+++◌, joined}
 use Rattle.cedar_types.specs.Types.{LayerOf, fold_type, fold_attributes}

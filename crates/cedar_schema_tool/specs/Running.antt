@@ -1,7 +1,7 @@
 -- SPDX-License-Identifier: Apache-2.0
 -- What a run of the program did, by its status.
 use Rattle.std.specs.Prelude.{◌≡◌, ◌⊎◌, ◌≤◌, ◌<◌, ℕ, List, [], length, Option, Some, IfSome, IsUtf8}
-use Rattle.cedar_names.specs.Words.{has_word}
+use Rattle.cedar_text.specs.Words.{has_word}
 use Rattle.cedar_streams.specs.Bytes.{Takes, TakesFront}
 use Rattle.cedar_streams.specs.Faults.{Rose}
 use Rattle.cedar_syntax.specs.Plain.{DeclTree}

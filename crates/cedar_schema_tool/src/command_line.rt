@@ -3,7 +3,7 @@ ghost use Rattle.std.specs.Prelude.{◌≡◌, ◌∷◌, [], ℕ, List, IfOk, M
 ghost use Rattle.std.specs.String.{string_bytes};
 ghost use Rattle.cedar_names.specs.ExtensionFaults.{extensions_fault};
 ghost use Rattle.cedar_names.specs.Extensions.{extension_words};
-ghost use Rattle.cedar_names.specs.Words.{has_word};
+ghost use Rattle.cedar_text.specs.Words.{has_word};
 ghost use Rattle.cedar_schema_tool.specs.CommandLine.{Asks, ext_words};
 ghost use Rattle.cedar_schema_tool.specs.Asking.{Found, FoundOptions, FoundNamed};
 

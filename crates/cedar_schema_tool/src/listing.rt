@@ -1,7 +1,7 @@
 // SPDX-License-Identifier: Apache-2.0
 ghost use Rattle.std.specs.Prelude.{◌≡◌, ◌∷◌, [], ◌++◌, IsTrue, EachIndex, slice_index, codes, if◌then◌else◌, map, flat_map};
 ghost use Rattle.cedar_names.specs.Components.{components};
-ghost use Rattle.cedar_names.specs.Escapes.{escaped, escaped_byte};
+ghost use Rattle.cedar_text.specs.Escapes.{escaped, escaped_byte};
 ghost use Rattle.cedar_names.specs.Names.{name_words};
 ghost use Rattle.cedar_schema_tool.specs.Listing.{name_text, quoted_text, type_text, attributes_text, entity_line, listing};
 ghost use Rattle.cedar_schema_tool.specs.Rows.{line_text, entity_text, row_text, attribute_text, mark_text};

@@ -2,7 +2,7 @@
 ghost use Rattle.std.specs.Prelude.{◌≡◌, ℕ, List, map, IfOk};
 ghost use Rattle.std.specs.String.{string_bytes};
 ghost use Rattle.cedar_names.specs.Extensions.{extension_words};
-ghost use Rattle.cedar_names.specs.Words.{has_word};
+ghost use Rattle.cedar_text.specs.Words.{has_word};
 ghost use Rattle.cedar_streams.specs.Writes.{Writes};
 ghost use Rattle.cedar_schema_tool.specs.Answering.{Lists, Rejects, AnswersBytes, AnswersText, AcceptsText};
 ghost use Rattle.cedar_schema_tool.specs.Listing.{listing};

@@ -8,7 +8,7 @@ use Rattle.std.proofs.lemmas.List.Sums.{prefix_len-le-length, prefix_len_passes,
 use Rattle.std.proofs.lemmas.List.Folds.{length-prefix_len}
 use Rattle.std.proofs.lemmas.Bool.Decides.{nat_tests}
 use Rattle.std.proofs.lemmas.Bool.{false≢true, cases_lt}
-use Rattle.cedar_names.specs.Words.{is_word_start, is_word_byte}
+use Rattle.cedar_text.specs.Words.{is_word_start, is_word_byte}
 use Rattle.cedar_syntax.specs.Lexing.{mark_kind}
 use Rattle.cedar_syntax.specs.declared.lexer.Kind.{Kind}
 

@@ -1,7 +1,7 @@
 -- SPDX-License-Identifier: Apache-2.0
 -- The reader of declarations finds exactly the declarations of the grammar.
 use Rattle.std.proofs.Common.{◌≡◌, ℕ, ◌+◌, ◌≤◌, true, false, List, [], Some, subst, refl, inl, inr, ⊎_elim, arith}
-use Rattle.cedar_names.specs.Words.{is_id}
+use Rattle.cedar_text.specs.Words.{is_id}
 use Rattle.cedar_syntax.specs.Lexing.{Token}
 use Rattle.cedar_syntax.specs.Productions.{IsOne, gives, ◌∣◌, ◌>>◌, optional}
 use Rattle.cedar_syntax.specs.Plain.{type_upto, record_type, declaration, token, greatest_nest, shape_nest, DeclTree}

@@ -1,7 +1,7 @@
 -- SPDX-License-Identifier: Apache-2.0
 -- The reader of types finds exactly the types of the grammar.
 use Rattle.std.proofs.Common.{◌≡◌, ℕ, zero, suc, ◌+◌, ◌-◌, ◌<◌, ◌≤◌, List, ◌∷◌, Some, None, subst, refl, inl, inr, ⊎_elim, arith}
-use Rattle.cedar_names.specs.Words.{is_id}
+use Rattle.cedar_text.specs.Words.{is_id}
 use Rattle.cedar_syntax.specs.Lexing.{Token}
 use Rattle.cedar_syntax.specs.Productions.{IsOne}
 use Rattle.cedar_syntax.specs.Plain.{TypeTree, Named, SetOf, type_upto, named_type, nest}

@@ -2,7 +2,7 @@
 -- The tokens of a schema text.
 use Rattle.std.specs.Prelude.{◌≡◌, ◌==◌, ◌<◌, ℕ, Bool, true, false, List, [], ◌∷◌, Option, Some, None, length, take, drop, slice_get, if◌then◌else◌, codes, bytes_eq, chars, IsCharBoundary, take_while, encode_utf8}
 use Rattle.std.specs.Char.{is_whitespace}
-use Rattle.cedar_names.specs.Words.{is_word_start, is_word_byte}
+use Rattle.cedar_text.specs.Words.{is_word_start, is_word_byte}
 use Rattle.cedar_syntax.specs.declared.lexer.Kind.{Kind}
 use Rattle.cedar_syntax.specs.declared.lexer.Kind.TheVariants as kind
 use Rattle.cedar_syntax.specs.declared.lexer.Piece.{Piece}

@@ -1,7 +1,7 @@
 -- SPDX-License-Identifier: Apache-2.0
 -- The plain grammar: entities with records of attributes, whose types are names and sets.
 use Rattle.std.specs.Prelude.{◌≡◌, ◌+◌, ◌≤◌, ℕ, zero, suc, max, IsTrue, List, [], ◌∷◌, All, map}
-use Rattle.cedar_names.specs.Words.{is_id}
+use Rattle.cedar_text.specs.Words.{is_id}
 use Rattle.cedar_names.specs.Identifiers.{id_word}
 use Rattle.cedar_syntax.specs.Lexing.{Token, is_word_kind, Lexes}
 use Rattle.cedar_syntax.specs.Productions.{Production, class, gives, ◌>>=◌, ◌>>◌, ◌∣◌, many, optional, trailing}

@@ -2,7 +2,7 @@
 -- How the parser goes through the tokens of the plain grammar, with at most n sets inside one another.
 -- The proofs show that it finds exactly the readings of the grammar.
 use Rattle.std.specs.Prelude.{◌≡◌, ◌==◌, ℕ, zero, suc, Bool, List, [], ◌∷◌, Option, Some, None, length, if◌then◌else◌, map, Result, MatchResult}
-use Rattle.cedar_names.specs.Words.{is_id}
+use Rattle.cedar_text.specs.Words.{is_id}
 use Rattle.cedar_syntax.specs.Lexing.{is_word_kind, Token, token_of}
 use Rattle.cedar_syntax.specs.Plain.{TypeTree, Named, SetOf, DeclTree}
 use Rattle.cedar_syntax.specs.declared.lexer.Kind.{Kind}

@@ -1,7 +1,7 @@
 // SPDX-License-Identifier: Apache-2.0
 ghost use Rattle.std.specs.Prelude.{◌≡◌, List, ℕ, IfOk, MatchOption, map, length};
 ghost use Rattle.std.specs.List.{take_while};
-ghost use Rattle.cedar_names.specs.Words.{is_word_start, is_word_byte};
+ghost use Rattle.cedar_text.specs.Words.{is_word_start, is_word_byte};
 ghost use Rattle.cedar_syntax.specs.Lexing.{is_word_kind, word_kind, mark_kind, piece_at, CutsAt, Lexes, Token, token_of};
 
 use cedar_data::Mem;

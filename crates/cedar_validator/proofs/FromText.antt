@@ -5,8 +5,8 @@ use Rattle.std.specs.List.{list_any}
 use Rattle.std.proofs.lemmas.List.Folds.{list_any-append}
 use Rattle.cedar_data.specs.declared.memory.Failure.{Failure}
 use Rattle.cedar_data.specs.declared.memory.Failure.TheVariants as failure
-use Rattle.cedar_names.specs.Lists.{elements}
-use Rattle.cedar_names.specs.Words.{has_word}
+use Rattle.cedar_text.specs.Lists.{elements}
+use Rattle.cedar_text.specs.Words.{has_word}
 use Rattle.cedar_syntax.specs.Plain.{DeclTree, ReadsPlain}
 use Rattle.cedar_validator.specs.Building.{Resolves}
 use Rattle.cedar_validator.specs.Declarations.{declared_names, shapes, is_unbuilt, are_distinct, IsFirstRepeat, missing}

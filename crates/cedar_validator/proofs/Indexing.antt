@@ -11,7 +11,7 @@ use Rattle.cedar_names.specs.Identifiers.{unreserved_word}
 use Rattle.cedar_names.specs.Order.{word_cmp}
 use Rattle.cedar_names.specs.declared.id.UnreservedId.{UnreservedId}
 use Rattle.cedar_syntax.specs.declared.plain.PlainType.{PlainType}
-use Rattle.cedar_names.specs.Words.{has_word}
+use Rattle.cedar_text.specs.Words.{has_word}
 use Rattle.cedar_validator.specs.Declarations.{are_distinct, IsFirstRepeat}
 use Rattle.cedar_validator.specs.Shapes.{attribute_trees, shape_tree, kept_world, declares, Indexes}
 use Rattle.cedar_validator.specs.declared.world.Shape.{Shape}

@@ -7,7 +7,7 @@ use Rattle.cedar_data.specs.Maps.{map_of}
 use Rattle.cedar_data.specs.declared.memory.Failure.{Failure}
 use Rattle.cedar_data.specs.declared.memory.Failure.TheVariants as failure
 use Rattle.cedar_names.specs.Order.{word_cmp}
-use Rattle.cedar_names.specs.Words.{has_word}
+use Rattle.cedar_text.specs.Words.{has_word}
 use Rattle.cedar_names.specs.declared.id.UnreservedId.{UnreservedId}
 use Rattle.cedar_syntax.specs.Plain.{DeclTree}
 use Rattle.cedar_syntax.specs.declared.plain.PlainType.{PlainType}

@@ -6,7 +6,7 @@ use Rattle.std.specs.Map.{lookup}
 use Rattle.std.specs.Option.{is_some}
 use Rattle.cedar_names.specs.Identifiers.{id_word, id_of, unreserved_word}
 use Rattle.cedar_names.specs.Names.{entity_words}
-use Rattle.cedar_names.specs.Words.{is_cedar, has_word, primitive_words}
+use Rattle.cedar_text.specs.Words.{is_cedar, has_word, primitive_words}
 use Rattle.cedar_names.specs.declared.id.Id.{Id}
 use Rattle.cedar_names.specs.declared.id.UnreservedId.{UnreservedId}
 use Rattle.cedar_names.specs.declared.name.EntityType.{EntityType}

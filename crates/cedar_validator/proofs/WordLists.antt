@@ -11,7 +11,7 @@ use Rattle.std.proofs.lemmas.List.Folds.{list_any-append}
 use Rattle.std.proofs.lemmas.Map.Text.{is_eq-slice_cmp}
 use Rattle.std.proofs.lemmas.Slice.Eq.{bytes_eq-Decides}
 use Rattle.cedar_names.specs.Order.{word_cmp}
-use Rattle.cedar_names.specs.Words.{has_word}
+use Rattle.cedar_text.specs.Words.{has_word}
 use Rattle.cedar_validator.specs.Declarations.{are_distinct}
 
 -- equal words are the same

@@ -5,7 +5,7 @@ use Rattle.std.specs.List.{list_any, filter_map}
 use Rattle.std.specs.BTreeMap.{insert_entry}
 use Rattle.cedar_data.specs.declared.memory.Failure.{Failure}
 use Rattle.cedar_data.specs.declared.memory.Failure.TheVariants as failure
-use Rattle.cedar_names.specs.Lists.{elements}
+use Rattle.cedar_text.specs.Lists.{elements}
 use Rattle.cedar_names.specs.Names.{entity_cmp}
 use Rattle.cedar_names.specs.declared.name.EntityType.{EntityType}
 use Rattle.cedar_syntax.specs.Plain.{DeclTree, TypeTree}

@@ -4,7 +4,7 @@ use Rattle.std.specs.Prelude.{◌≡◌, ◌++◌, ℕ, List, [], ◌∷◌, Boo
 use Rattle.std.specs.List.{find, filter_map, list_any}
 use Rattle.cedar_data.specs.Maps.{map_of}
 use Rattle.cedar_names.specs.Order.{word_cmp}
-use Rattle.cedar_names.specs.Words.{has_word, primitive_words}
+use Rattle.cedar_text.specs.Words.{has_word, primitive_words}
 use Rattle.cedar_syntax.specs.Plain.{DeclTree, TypeTree, Named, SetOf}
 
 -- the declared names, in the order of the text

@@ -3,7 +3,7 @@
 use Rattle.std.specs.Prelude.{◌≡◌, ℕ, Bool, true, List, [], ◌∷◌, ◌⊎◌, codes, IsTrue}
 use Rattle.std.specs.List.{AllZip}
 use Rattle.cedar_names.specs.Names.{entity_words}
-use Rattle.cedar_names.specs.Words.{has_word}
+use Rattle.cedar_text.specs.Words.{has_word}
 use Rattle.cedar_names.specs.declared.name.EntityType.{EntityType}
 use Rattle.cedar_syntax.specs.Plain.{DeclTree, TypeTree, Named, SetOf}
 use Rattle.cedar_types.specs.Types.{bool_type, long_type, string_type, set_type, entity_type, entries}

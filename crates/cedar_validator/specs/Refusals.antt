@@ -3,7 +3,7 @@
 use Rattle.std.specs.Prelude.{◌≡◌, ℕ, Bool, true, List}
 use Rattle.cedar_data.specs.declared.memory.Failure.{Failure}
 use Rattle.cedar_data.specs.declared.memory.Failure.TheVariants as failure
-use Rattle.cedar_names.specs.Lists.{elements}
+use Rattle.cedar_text.specs.Lists.{elements}
 use Rattle.cedar_validator.specs.Declarations.{IsFirstRepeat}
 use Rattle.cedar_validator.specs.declared.errors.CedarSchemaError.{CedarSchemaError}
 use Rattle.cedar_validator.specs.declared.errors.CedarSchemaError.TheVariants as errors

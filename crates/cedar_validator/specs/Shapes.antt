@@ -8,7 +8,7 @@ use Rattle.cedar_names.specs.Order.{word_cmp}
 use Rattle.cedar_names.specs.declared.id.UnreservedId.{UnreservedId}
 use Rattle.cedar_syntax.specs.Plain.{TypeTree, attribute_tree}
 use Rattle.cedar_syntax.specs.declared.plain.PlainType.{PlainType}
-use Rattle.cedar_names.specs.Words.{has_word}
+use Rattle.cedar_text.specs.Words.{has_word}
 use Rattle.cedar_validator.specs.Declarations.{are_distinct}
 use Rattle.cedar_validator.specs.declared.world.Shape.{Shape}
 

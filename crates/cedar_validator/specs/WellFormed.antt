@@ -4,7 +4,7 @@ use Rattle.std.specs.Prelude.{◌≡◌, ℕ, Bool, List, [], false, IsTrue, Res
 use Rattle.std.specs.List.{list_any}
 use Rattle.cedar_data.specs.declared.memory.Failure.{Failure}
 use Rattle.cedar_data.specs.declared.memory.Failure.TheVariants.{Refused, NoMemory}
-use Rattle.cedar_names.specs.Lists.{elements}
+use Rattle.cedar_text.specs.Lists.{elements}
 use Rattle.cedar_syntax.specs.Plain.{DeclTree, ReadsPlain}
 use Rattle.cedar_validator.specs.Declarations.{declared_names, shapes, is_unbuilt, are_distinct, IsFirstRepeat, missing}
 use Rattle.cedar_validator.specs.Denotes.{Denotes}

@@ -3,7 +3,7 @@ ghost use Rattle.std.specs.Prelude.{◌≡◌, [], map, IfOk, IfErr, OnOk};
 ghost use Rattle.std.specs.List.{AllZip};
 ghost use Rattle.cedar_names.specs.Extensions.{extension_words};
 ghost use Rattle.cedar_names.specs.Identifiers.{unreserved_word};
-ghost use Rattle.cedar_names.specs.Words.{has_word};
+ghost use Rattle.cedar_text.specs.Words.{has_word};
 ghost use Rattle.cedar_syntax.specs.Plain.{decl_tree};
 ghost use Rattle.cedar_validator.specs.Building.{missing_of, Adds, Resolves};
 ghost use Rattle.cedar_validator.specs.Denotes.{DenotesEntry};

@@ -1,10 +1,10 @@
 // SPDX-License-Identifier: Apache-2.0
 ghost use Rattle.std.specs.Prelude.{◌≡◌, ◌∷◌, [], None, Some, false, IfOk, MatchOption};
 ghost use Rattle.std.specs.List.{AllZip};
-ghost use Rattle.cedar_names.specs.Failures.{IfRefused};
+ghost use Rattle.cedar_text.specs.Failures.{IfRefused};
 ghost use Rattle.cedar_names.specs.Identifiers.{id_word, unreserved_word};
 ghost use Rattle.cedar_names.specs.Names.{entity_words};
-ghost use Rattle.cedar_names.specs.Words.{has_word, primitive_words};
+ghost use Rattle.cedar_text.specs.Words.{has_word, primitive_words};
 ghost use Rattle.cedar_syntax.specs.Plain.{type_tree};
 ghost use Rattle.cedar_types.specs.Types.{entries};
 ghost use Rattle.cedar_validator.specs.Declarations.{word_of, is_defined, first_undefined};

@@ -3,7 +3,7 @@ ghost use Rattle.std.specs.Prelude.{◌≡◌, false, map, IfOk, IfErr};
 ghost use Rattle.std.specs.List.{list_any};
 ghost use Rattle.cedar_names.specs.Extensions.{extension_words};
 ghost use Rattle.cedar_names.specs.Identifiers.{id_word};
-ghost use Rattle.cedar_names.specs.Words.{has_word};
+ghost use Rattle.cedar_text.specs.Words.{has_word};
 ghost use Rattle.cedar_syntax.specs.Plain.{type_tree, decl_tree};
 ghost use Rattle.cedar_validator.specs.Declarations.{by_name, word_of, type_words, kept_names, is_unbuilt, shape, shapes};
 ghost use Rattle.cedar_validator.specs.Refusals.{RefusesUnbuilt};

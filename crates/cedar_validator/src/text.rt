@@ -1,7 +1,7 @@
 // SPDX-License-Identifier: Apache-2.0
 ghost use Rattle.std.specs.Prelude.{List};
 ghost use Rattle.cedar_names.specs.Extensions.{extension_words};
-ghost use Rattle.cedar_names.specs.Words.{has_word};
+ghost use Rattle.cedar_text.specs.Words.{has_word};
 ghost use Rattle.cedar_syntax.specs.Plain.{DeclTree};
 ghost use Rattle.cedar_validator.specs.WellFormed.{IsWellFormed, Answers, AcceptsAs};
 

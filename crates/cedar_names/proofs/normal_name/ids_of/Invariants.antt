@@ -1,6 +1,6 @@
 -- SPDX-License-Identifier: Apache-2.0
 use Rattle.std.specs.Vec.Iter.{into_iter_items}
-use Rattle.cedar_names.specs.NormalNames.{excluded_words}
+use Rattle.cedar_text.specs.NormalNames.{excluded_words}
 use Rattle.cedar_names.proofs.NormalNameLemmas.{Checked}
 use Rattle.cedar_names.proofs.normal_name.ids_of.Given as goal
 

@@ -1,9 +1,10 @@
 -- SPDX-License-Identifier: Apache-2.0
 use Rattle.std.proofs.Common.{ap, ◌∙◌, arith}
 use Rattle.std.specs.List.{list_all}
-use Rattle.cedar_names.specs.Components.{has_cedar, joined}
-use Rattle.cedar_names.specs.NormalNames.{parts}
-use Rattle.cedar_names.specs.Words.{is_word}
+use Rattle.cedar_names.specs.Components.{has_cedar}
+use Rattle.cedar_text.specs.Joining.{joined}
+use Rattle.cedar_text.specs.NormalNames.{parts}
+use Rattle.cedar_text.specs.Words.{is_word}
 use Rattle.cedar_names.proofs.NormalNameLemmas.{all_words, some_ids, no_cedar_where, joined-parts}
 use Rattle.cedar_names.proofs.normal_name.normalized_ids.Goals as goal
 

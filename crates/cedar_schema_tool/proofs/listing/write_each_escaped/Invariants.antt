@@ -1,6 +1,6 @@
 -- SPDX-License-Identifier: Apache-2.0
 use Rattle.std.proofs.Common.{drop}
-use Rattle.cedar_names.specs.Escapes.{escaped_byte}
+use Rattle.cedar_text.specs.Escapes.{escaped_byte}
 use Rattle.cedar_streams.proofs.InLoop.{WritesEach}
 use Rattle.cedar_schema_tool.proofs.listing.write_each_escaped.Given as goal
 

@@ -2,7 +2,7 @@
 use Rattle.std.proofs.Common.{map}
 use Rattle.std.proofs.lemmas.Result.{err_from_is_err_and}
 use Rattle.cedar_names.specs.Extensions.{extension_words}
-use Rattle.cedar_names.specs.Words.{has_word}
+use Rattle.cedar_text.specs.Words.{has_word}
 use Rattle.cedar_syntax.specs.Plain.{decl_tree}
 use Rattle.cedar_validator.proofs.Joining.{repeat_refused, resolved}
 use Rattle.cedar_validator.proofs.building.resolve.Goals as goal

@@ -2,7 +2,7 @@
 use Rattle.std.proofs.Common.{◌≡◌}
 use Rattle.std.specs.List.{list_any}
 use Rattle.cedar_names.specs.Extensions.{extension_words}
-use Rattle.cedar_names.specs.Words.{has_word}
+use Rattle.cedar_text.specs.Words.{has_word}
 use Rattle.cedar_validator.specs.Declarations.{type_words}
 use Rattle.cedar_validator.specs.Shapes.{attribute_trees}
 use Rattle.cedar_validator.proofs.shapes.has_extension_type.Given as goal

@@ -3,7 +3,7 @@ use Rattle.std.proofs.Common.{◌≡◌, ◌++◌, map}
 use Rattle.std.specs.List.{list_any}
 use Rattle.std.specs.Vec.Iter.{into_iter_items}
 use Rattle.cedar_names.specs.Extensions.{extension_words}
-use Rattle.cedar_names.specs.Words.{has_word}
+use Rattle.cedar_text.specs.Words.{has_word}
 use Rattle.cedar_syntax.specs.Plain.{decl_tree}
 use Rattle.cedar_validator.specs.Declarations.{is_unbuilt, shapes}
 use Rattle.cedar_validator.specs.Shapes.{shape_tree}

@@ -3,7 +3,7 @@ use Rattle.std.proofs.Common.{◌≡◌, ◌<◌, None, length, drop, sym, ap, �
 use Rattle.cedar_names.specs.EntityUids.{eid_text, entity_type_of, eid_of}
 use Rattle.cedar_names.specs.Names.{entity_words, name_words}
 use Rattle.cedar_names.specs.declared.entity_uid.EntityUID.{EntityUID}
-use Rattle.cedar_names.specs.Literals.{literal_fault, ClosesLiteral}
+use Rattle.cedar_text.specs.Literals.{literal_fault, ClosesLiteral}
 use Rattle.cedar_names.proofs.EntityUidLemmas.{all_are_words, some_words, some_bytes, IsCharBoundary-opening, fault-words, writes}
 use Rattle.cedar_names.proofs.entity_uid.EntityUID.from_normalized_str.Goals as goal
 

@@ -1,7 +1,7 @@
 -- SPDX-License-Identifier: Apache-2.0
 use Rattle.std.proofs.Common.{map}
 use Rattle.cedar_names.specs.Extensions.{extension_words}
-use Rattle.cedar_names.specs.Words.{has_word}
+use Rattle.cedar_text.specs.Words.{has_word}
 use Rattle.cedar_syntax.specs.Plain.{decl_tree}
 use Rattle.cedar_validator.proofs.FromText.{text_answered, text_accepted}
 use Rattle.cedar_validator.proofs.schema.ValidatorSchema.from_cedarschema_str.Goals as goal

@@ -1,0 +1,13 @@
+-- SPDX-License-Identifier: Apache-2.0
+pub mod EscapedByte
+pub mod Escapes
+pub mod Failures
+pub mod FaultTexts
+pub mod Faults
+pub mod Joining
+pub mod Lists
+pub mod Literals
+pub mod NormalNames
+pub mod Places
+pub mod Unescaping
+pub mod Words
