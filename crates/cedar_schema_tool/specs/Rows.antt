@@ -1,23 +1,37 @@
 -- SPDX-License-Identifier: Apache-2.0
 -- The texts of the parts of a line.
 use Rattle.std.specs.Prelude.{ℕ, Bool, List, [], map, if◌then◌else◌, codes}
-use Rattle.cedar_names.specs.Names.{entity_words}
+use Rattle.cedar_names.specs.EntityUids.{eid_text}
+use Rattle.cedar_names.specs.declared.entity_uid.Eid.{Eid}
+use Rattle.cedar_names.specs.declared.entity_uid.EntityUID.{EntityUID}
 use Rattle.cedar_names.specs.declared.name.EntityType.{EntityType}
-use Rattle.cedar_streams.specs.Texts.{◌+++◌, joined}
+use Rattle.cedar_streams.specs.Texts.{◌+++◌}
 use Rattle.cedar_types.specs.Types.{fold_attribute}
 use Rattle.cedar_types.specs.declared.ty.AttributeType.{AttributeType}
 use Rattle.cedar_types.specs.declared.ty.Attributes.{Attributes}
-use Rattle.cedar_validator.specs.declared.schema.ValidatorEntityType.{ValidatorEntityType}
-use Rattle.cedar_schema_tool.specs.Listing.{name_text, quoted_text, layer_text, behind_name, attributes_text, entity_line}
+use Rattle.cedar_types.specs.declared.ty.ResolvedType.{ResolvedType}
+use Rattle.cedar_schema_tool.specs.Listing.{entity_text, uid_line_text, quoted_text, list_text, layer_text, behind_name, type_text, attributes_text}
 
--- the name of an entity type
-abbrev pub entity_text : EntityType → List ℕ
-entity_text entity = name_text (entity_words entity)
+-- an id behind its type
+abbrev pub typed_id_text : EntityType → Eid → List ℕ
+typed_id_text ty eid = entity_text ty +++ codes "::" +++ quoted_text (eid_text eid)
 
 -- the line of an entity type of this name with these descendants and attributes
-abbrev pub line_text : EntityType → List EntityType → Attributes → List ℕ
-line_text name descendants attributes =
-    codes "entity " +++ entity_text name +++ codes " descendants [" +++ joined (codes ", ") (map entity_text descendants) +++ codes "] attributes " +++ attributes_text attributes +++ codes "\n"
+abbrev pub entity_line_of : EntityType → List EntityType → Attributes → List ℕ
+entity_line_of name descendants attributes =
+    codes "entity " +++ entity_text name +++ codes " descendants " +++ list_text (map entity_text descendants) +++ codes " attributes " +++ attributes_text attributes +++ codes "\n"
+
+-- what an action applies to, up to the end of its line
+abbrev pub applies_text : List EntityType → List EntityType → ResolvedType → List ℕ
+applies_text principals resources context =
+    codes " principals " +++ list_text (map entity_text principals)
+    +++ codes " resources " +++ list_text (map entity_text resources)
+    +++ codes " context " +++ type_text context +++ codes "\n"
+
+-- the line of an action of this name with these descendants, which applies to these
+abbrev pub action_line_of : EntityUID → List EntityUID → List EntityType → List EntityType → ResolvedType → List ℕ
+action_line_of name descendants principals resources context =
+    codes "action " +++ uid_line_text name +++ codes " descendants " +++ list_text (map uid_line_text descendants) +++ applies_text principals resources context
 
 -- what stands behind the name of an attribute
 abbrev pub attribute_text : AttributeType → List ℕ

@@ -4,9 +4,13 @@
 
 mod command_line;
 mod listing;
+mod lists;
+mod names;
+mod quoting;
 mod refusal;
 mod running;
 mod status;
+mod type_text;
 
 pub use cedar_streams::{
     MemSink, MemSource, ReadStop, Sink, SinkFailed, Source, SourceFailed, StdSink, StdSource,

@@ -1,28 +1,46 @@
 // SPDX-License-Identifier: Apache-2.0
-ghost use Rattle.std.specs.Prelude.{◌≡◌, ◌∷◌, [], ◌++◌, IsTrue, EachIndex, slice_index, codes, if◌then◌else◌, map, flat_map};
-ghost use Rattle.cedar_names.specs.Components.{components};
-ghost use Rattle.cedar_text.specs.Escapes.{escaped, escaped_byte};
-ghost use Rattle.cedar_names.specs.Names.{name_words};
-ghost use Rattle.cedar_schema_tool.specs.Listing.{name_text, quoted_text, type_text, attributes_text, entity_line, listing};
-ghost use Rattle.cedar_schema_tool.specs.Rows.{line_text, entity_text, row_text, attribute_text, mark_text};
-ghost use Rattle.cedar_streams.specs.Texts.{◌+++◌, joined};
+ghost use Rattle.std.specs.Prelude.{flat_map};
+ghost use Rattle.std.specs.Map.{values_of};
+ghost use Rattle.cedar_schema_tool.specs.Listing.{entity_line, action_line, listing};
+ghost use Rattle.cedar_schema_tool.specs.Rows.{entity_line_of, action_line_of, applies_text};
 ghost use Rattle.cedar_streams.specs.Writes.{Writes};
-ghost use Rattle.cedar_types.specs.Types.{entries};
-ghost use Rattle.cedar_validator.specs.Schemas.{types};
+ghost use Rattle.cedar_validator.specs.Schemas.{types, action_types};
 
-use cedar_data::{Set, Text};
-use cedar_names::{EntityType, EscapedByte, InternalName, Name};
-use cedar_streams::{Sink, SinkFailed, write_all, write_str};
-use cedar_types::{AttributeType, Attributes, Type, TypeView};
-use cedar_validator::{ValidatorEntityType, ValidatorSchema};
+use crate::lists::write_list;
+use crate::names::{write_entity_name, write_uid};
+use crate::type_text::{write_attributes, write_type};
+use cedar_data::SetIter;
+use cedar_names::{EntityType, EntityUID};
+use cedar_streams::{Sink, SinkFailed, write_str};
+use cedar_types::{Attributes, Type};
+use cedar_validator::{ValidatorActionId, ValidatorEntityType, ValidatorSchema};
 
-/// Writes the lines of the entity types of a schema. It takes no memory. A failure leaves a front of
-/// the lines written.
+/// Writes the lines of a schema: those of its entity types, and then those of its actions. It takes no
+/// memory. A failure leaves a front of the lines written.
+#[tactic(auto, using(cedar_streams::proofs::InOrder::in_order))]
 pub fn write_listing<K: Sink>(schema: &ValidatorSchema, out: &mut K) -> Result<(), SinkFailed>
     ensures { Writes K.written K.faults out.old out.new (listing schema.now) result }
 {
+    write_entities(schema, out)?;
+    write_actions(schema, out)
+}
+
+/// Writes the lines of the entity types of a schema.
+fn write_entities<K: Sink>(schema: &ValidatorSchema, out: &mut K) -> Result<(), SinkFailed>
+    ensures { Writes K.written K.faults out.old out.new (flat_map entity_line (values_of (types schema.now))) result }
+{
     for ty in schema.entity_types() {
         write_entity(ty, out)?;
+    }
+    Ok(())
+}
+
+/// Writes the lines of the actions of a schema.
+fn write_actions<K: Sink>(schema: &ValidatorSchema, out: &mut K) -> Result<(), SinkFailed>
+    ensures { Writes K.written K.faults out.old out.new (flat_map action_line (values_of (action_types schema.now))) result }
+{
+    for action in schema.action_ids() {
+        write_action(action, out)?;
     }
     Ok(())
 }
@@ -31,199 +49,76 @@ pub fn write_listing<K: Sink>(schema: &ValidatorSchema, out: &mut K) -> Result<(
 fn write_entity<K: Sink>(ty: &ValidatorEntityType, out: &mut K) -> Result<(), SinkFailed>
     ensures { Writes K.written K.faults out.old out.new (entity_line ty.now) result }
 {
-    write_line(ty.name(), &ty.descendants, ty.attributes(), out)
+    write_entity_line(ty.name(), ty.descendants.iter(), ty.attributes(), out)
 }
 
 /// Writes the line of the entity type of this name.
 #[tactic(auto, using(cedar_streams::proofs::InOrder::in_order))]
-fn write_line<K: Sink>(
+fn write_entity_line<K: Sink>(
     name: &EntityType,
-    descendants: &Set<EntityType>,
+    descendants: SetIter<'_, EntityType>,
     attributes: &Attributes,
     out: &mut K,
 ) -> Result<(), SinkFailed>
-    ensures { Writes K.written K.faults out.old out.new (line_text name.now descendants.now attributes.now) result }
+    ensures { Writes K.written K.faults out.old out.new (entity_line_of name.now descendants.entry attributes.now) result }
 {
     write_str(out, "entity ")?;
     write_entity_name(name, out)?;
-    write_str(out, " descendants [")?;
-    write_entity_names(descendants, out)?;
-    write_str(out, "] attributes ")?;
+    write_str(out, " descendants ")?;
+    write_list(descendants, out)?;
+    write_str(out, " attributes ")?;
     write_attributes(attributes, out)?;
     write_str(out, "\n")
 }
 
-/// Writes names of entity types with commas between them.
-fn write_entity_names<K: Sink>(names: &Set<EntityType>, out: &mut K) -> Result<(), SinkFailed>
-    ensures { Writes K.written K.faults out.old out.new (joined (codes ", ") (map entity_text names.now)) result }
+/// Writes the line of an action.
+fn write_action<K: Sink>(action: &ValidatorActionId, out: &mut K) -> Result<(), SinkFailed>
+    ensures { Writes K.written K.faults out.old out.new (action_line action.now) result }
 {
-    let mut separator: &[u8] = b"";
-    for name in names.iter() {
-        write_all(out, separator)?;
-        write_entity_name(name, out)?;
-        separator = b", ";
-    }
-    Ok(())
+    write_action_line(
+        action.name(),
+        action.descendants(),
+        action.principals(),
+        action.resources(),
+        action.context(),
+        out,
+    )
 }
 
-/// Writes the name of an entity type.
-fn write_entity_name<K: Sink>(ty: &EntityType, out: &mut K) -> Result<(), SinkFailed>
-    ensures { Writes K.written K.faults out.old out.new (entity_text ty.now) result }
-{
-    write_type_name(ty.name(), out)
-}
-
-/// Writes the name of a type.
-fn write_type_name<K: Sink>(name: &Name, out: &mut K) -> Result<(), SinkFailed>
-    ensures { Writes K.written K.faults out.old out.new (name_text (name_words name.now)) result }
-{
-    write_name(name.as_internal(), out)
-}
-
-/// Writes the components of a name with `::` between them.
-fn write_name<K: Sink>(name: &InternalName, out: &mut K) -> Result<(), SinkFailed>
-    ensures { Writes K.written K.faults out.old out.new (name_text (components name.now)) result }
-{
-    let mut separator: &[u8] = b"";
-    for id in name.components() {
-        write_all(out, separator)?;
-        write_str(out, id.as_ref())?;
-        separator = b"::";
-    }
-    Ok(())
-}
-
-/// Writes a type.
-#[cycle(types)]
+/// Writes the line of the action of this name.
 #[tactic(auto, using(cedar_streams::proofs::InOrder::in_order))]
-fn write_type<K: Sink>(ty: &Type, out: &mut K) -> Result<(), SinkFailed>
-    ensures { Writes K.written K.faults out.old out.new (type_text ty.now) result }
+fn write_action_line<K: Sink>(
+    name: &EntityUID,
+    descendants: SetIter<'_, EntityUID>,
+    principals: SetIter<'_, EntityType>,
+    resources: SetIter<'_, EntityType>,
+    context: &Type,
+    out: &mut K,
+) -> Result<(), SinkFailed>
+    ensures { Writes K.written K.faults out.old out.new (action_line_of name.now descendants.entry principals.entry resources.entry context.now) result }
 {
-    match ty.view() {
-        TypeView::Bool => write_str(out, "Bool"),
-        TypeView::Long => write_str(out, "Long"),
-        TypeView::String => write_str(out, "String"),
-        TypeView::Set(element) => {
-            write_str(out, "Set<")?;
-            write_type(element, out)?;
-            write_str(out, ">")
-        }
-        TypeView::Record(attributes, _) => write_attributes(attributes, out),
-        TypeView::Entity(entity) => {
-            write_str(out, "entity ")?;
-            write_entity_name(entity, out)
-        }
-        TypeView::Extension(name) => {
-            write_str(out, "extension ")?;
-            write_type_name(name, out)
-        }
-    }
+    write_str(out, "action ")?;
+    write_uid(name, out)?;
+    write_str(out, " descendants ")?;
+    write_list(descendants, out)?;
+    write_applies(principals, resources, context, out)
 }
 
-/// Writes attributes in braces.
-#[cycle(types)]
+/// Writes what an action applies to, up to the end of its line.
 #[tactic(auto, using(cedar_streams::proofs::InOrder::in_order))]
-fn write_attributes<K: Sink>(attributes: &Attributes, out: &mut K) -> Result<(), SinkFailed>
-    ensures { Writes K.written K.faults out.old out.new (attributes_text attributes.now) result }
+fn write_applies<K: Sink>(
+    principals: SetIter<'_, EntityType>,
+    resources: SetIter<'_, EntityType>,
+    context: &Type,
+    out: &mut K,
+) -> Result<(), SinkFailed>
+    ensures { Writes K.written K.faults out.old out.new (applies_text principals.entry resources.entry context.now) result }
 {
-    write_str(out, "{")?;
-    write_rows(attributes, out)?;
-    write_str(out, "}")
-}
-
-/// Writes attributes with commas between them.
-#[cycle(types)]
-fn write_rows<K: Sink>(attributes: &Attributes, out: &mut K) -> Result<(), SinkFailed>
-    ensures { Writes K.written K.faults out.old out.new (joined (codes ", ") (map row_text (entries attributes.now))) result }
-{
-    let mut separator: &[u8] = b"";
-    for (name, attribute) in attributes.iter() {
-        write_all(out, separator)?;
-        write_row(name, attribute, out)?;
-        separator = b", ";
-    }
-    Ok(())
-}
-
-/// Writes an attribute: its name between quotes, `?` where it isn't required, and its type.
-#[cycle(types)]
-#[tactic(auto, using(cedar_streams::proofs::InOrder::in_order))]
-fn write_row<K: Sink>(name: &Text, attribute: &AttributeType, out: &mut K) -> Result<(), SinkFailed>
-    ensures { Writes K.written K.faults out.old out.new (row_text (name.now, attribute.now)) result }
-{
-    write_quoted(name, out)?;
-    write_mark(attribute.is_required, out)?;
-    write_str(out, ": ")?;
-    write_type(&attribute.attr_type, out)
-}
-
-/// Writes `?` where an attribute isn't required.
-fn write_mark<K: Sink>(is_required: bool, out: &mut K) -> Result<(), SinkFailed>
-    ensures { Writes K.written K.faults out.old out.new (mark_text is_required) result }
-{
-    if is_required {
-        write_str(out, "")
-    } else {
-        write_str(out, "?")
-    }
-}
-
-/// Writes a text between quotes.
-#[tactic(auto, using(cedar_streams::proofs::InOrder::in_order))]
-fn write_quoted<K: Sink>(text: &Text, out: &mut K) -> Result<(), SinkFailed>
-    ensures { Writes K.written K.faults out.old out.new (quoted_text text.now) result }
-{
-    write_str(out, "\"")?;
-    write_escaped(text, out)?;
-    write_str(out, "\"")
-}
-
-/// Writes a text as it stands between quotes.
-fn write_escaped<K: Sink>(text: &Text, out: &mut K) -> Result<(), SinkFailed>
-    ensures { Writes K.written K.faults out.old out.new (escaped text.now) result }
-{
-    write_escaped_bytes(text.as_str().as_bytes(), out)
-}
-
-/// Writes bytes as they stand between quotes, at once where none of them is escaped.
-fn write_escaped_bytes<K: Sink>(bytes: &[u8], out: &mut K) -> Result<(), SinkFailed>
-    ensures { Writes K.written K.faults out.old out.new (escaped bytes.now) result }
-{
-    if are_plain(bytes) {
-        write_all(out, bytes)
-    } else {
-        write_each_escaped(bytes, out)
-    }
-}
-
-/// Whether each byte stands for itself between quotes; it may answer no for such bytes too.
-fn are_plain(bytes: &[u8]) -> bool
-    ensures { IsTrue result → EachIndex bytes.now (λ k. escaped_byte (slice_index bytes.now k) ≡ slice_index bytes.now k ∷ []) }
-{
-    bytes.iter().all(|byte| is_plain(*byte))
-}
-
-/// Writes each byte of a text as it stands between quotes.
-fn write_each_escaped<K: Sink>(text: &[u8], out: &mut K) -> Result<(), SinkFailed>
-    ensures { Writes K.written K.faults out.old out.new (escaped text.now) result }
-{
-    for byte in text {
-        write_byte(*byte, out)?;
-    }
-    Ok(())
-}
-
-/// Writes a byte as it stands between quotes.
-fn write_byte<K: Sink>(byte: u8, out: &mut K) -> Result<(), SinkFailed>
-    ensures { Writes K.written K.faults out.old out.new (escaped_byte byte) result }
-{
-    let written = EscapedByte::of(byte);
-    write_all(out, written.as_bytes())
-}
-
-/// Whether a byte stands for itself between quotes; it may answer no for such a byte too.
-fn is_plain(byte: u8) -> bool
-    ensures { IsTrue result → escaped_byte byte ≡ byte ∷ [] }
-{
-    byte > b'\\' && byte < 127 || byte > b'\'' && byte < b'\\' || byte == b' '
+    write_str(out, " principals ")?;
+    write_list(principals, out)?;
+    write_str(out, " resources ")?;
+    write_list(resources, out)?;
+    write_str(out, " context ")?;
+    write_type(context, out)?;
+    write_str(out, "\n")
 }

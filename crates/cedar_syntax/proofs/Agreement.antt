@@ -3,7 +3,7 @@
 use Rattle.std.proofs.Common.{◌≡◌, ◌<◌, ◌≤◌, true, false, List, [], ◌∷◌, ◌++◌, length, length-append, append_assoc, sym, ap, ◌∙◌, subst, refl, inl, inr, ⊎_elim, arith}
 use Rattle.std.proofs.lemmas.List.{append-nil}
 use Rattle.std.proofs.lemmas.Bool.{cases_lt}
-use Rattle.cedar_syntax.specs.Productions.{Production, IsOne, class, gives, ◌>>=◌, ◌>>◌, ◌∣◌, ReadsMany, none, more, many, optional, separated, trailing, Completable}
+use Rattle.cedar_syntax.specs.Productions.{Production, IsOne, class, gives, ◌>>=◌, ◌>>◌, ◌∣◌, ReadsMany, none, more, many, optional, separated, trailing, bracketed, Completable}
 
 -- the tokens that a reading takes, which are read to the same before whatever follows
 pub record Front {T A : Type 0} (R : Production T A) (ts : List T) (x : A) (rest : List T) : Type 0 where
@@ -204,3 +204,9 @@ pub trailing_agrees : {T S A : Type 0} (separator : Production T S) (R : Product
 trailing_agrees separator R s a =
     then_agrees (separated separator R) _ (separated_agrees separator R s a) (λ xs.
     then_agrees (optional separator) _ (optional_agrees separator s) (λ _. gives_agrees xs))
+
+pub bracketed_agrees : {T S E A : Type 0} (before : Production T S) (behind : Production T E) (R : Production T A) → Agrees before → Agrees behind → Agrees R → Agrees (bracketed before behind R)
+bracketed_agrees before behind R s e a =
+    then_agrees before _ s (λ _.
+    then_agrees R _ a (λ x.
+    then_agrees behind _ e (λ _. gives_agrees x)))

@@ -6,6 +6,7 @@ pub mod Readers
 pub mod Trees
 pub mod Types
 pub mod Records
+pub mod Names
 pub mod Declarations
 pub mod Schemas
 pub mod Loops

@@ -8,9 +8,10 @@ use Rattle.cedar_data.specs.declared.memory.Failure.{Failure}
 use Rattle.cedar_data.specs.declared.memory.Failure.TheVariants as failure
 use Rattle.cedar_syntax.specs.Lexing.{Token}
 use Rattle.cedar_syntax.specs.Plain.{DeclTree}
-use Rattle.cedar_syntax.specs.Reading.{Reader, done, after, accept_at, attribute_at, attributes_at, declaration_at, schema_at, Refuses, tokens_of}
+use Rattle.cedar_syntax.specs.Reading.{Reader, done, after, text_at, accept_at, attribute_at, attributes_at, names_at, declaration_at, schema_at, Refuses, tokens_of}
 use Rattle.cedar_syntax.proofs.Readers.{prepend, prepend-nil, prepend-more}
 use Rattle.cedar_syntax.proofs.Records.{Attribute, attributes_at-step}
+use Rattle.cedar_syntax.proofs.Names.{names_at-step}
 use Rattle.cedar_syntax.proofs.Schemas.{schema_at-cons, schema_at-nil}
 use Rattle.cedar_syntax.specs.declared.plain.NoPlainReading.{NoPlainReading}
 use Rattle.cedar_syntax.specs.declared.lexer.Kind.TheVariants as kind
@@ -56,6 +57,18 @@ module _ (n : ℕ) (here : List Token) where
   pub attributes_next : (a : Attribute) (mid : List Token) (t : Token) (left : List Token) → None ≡ accept_at kind.Close here → attribute_at n here ≡ Some (a, mid) → Some (t, left) ≡ accept_at kind.Comma mid
       → attributes_at n here ≡ after (attributes_at n left) (λ others. done (a ∷ others))
   attributes_next a mid t left close next comma = rw (attributes_at-step n here, sym close, next, sym comma) refl
+
+-- the names at each turn of the loop
+module _ (p : Token → Bool) (here : List Token) where
+  pub names_no_next : text_at p here ≡ None → names_at p here ≡ None
+  names_no_next next = rw (names_at-step p here, next) refl
+
+  pub names_last : (a : List ℕ) (mid : List Token) → text_at p here ≡ Some (a, mid) → None ≡ accept_at kind.Comma mid → names_at p here ≡ Some (a ∷ [], mid)
+  names_last a mid next comma = rw (names_at-step p here, next, sym comma) refl
+
+  pub names_next : (a : List ℕ) (mid : List Token) (t : Token) (left : List Token) → text_at p here ≡ Some (a, mid) → Some (t, left) ≡ accept_at kind.Comma mid
+      → names_at p here ≡ after (names_at p left) (λ others. done (a ∷ others))
+  names_next a mid t left next comma = rw (names_at-step p here, next, sym comma) refl
 
 -- the declarations at each turn of the loop
 module _ (n : ℕ) (here : List Token) (some : 0 < length here) where

@@ -1,9 +1,10 @@
 -- SPDX-License-Identifier: Apache-2.0
 -- What the steps of a reader give, apart from any grammar.
-use Rattle.std.proofs.Common.{◌≡◌, ◌⊎◌, ℕ, zero, suc, ◌<◌, ◌≤◌, ◌==◌, Bool, true, false, cond, List, [], ◌∷◌, ◌++◌, length, Option, Some, None, sym, ap, ◌∙◌, subst, refl, inl, inr, ⊎_elim, arith, append_assoc, ◌+◌, eq-eqb, IsTrue}
+use Rattle.std.proofs.Common.{◌≡◌, ◌⊎◌, ℕ, zero, suc, ◌<◌, ◌≤◌, ◌==◌, Bool, true, false, cond, List, [], ◌∷◌, ◌++◌, length, Option, Some, None, sym, ap, ◌∙◌, refl, inl, inr, ⊎_elim, arith, append_assoc, ◌+◌, eq-eqb, IsTrue}
 use Rattle.std.proofs.lemmas.Bool.Decides.{Decides-eqb}
 use Rattle.cedar_syntax.specs.Lexing.{Token}
 use Rattle.cedar_syntax.specs.Productions.{IsOne}
+use Rattle.cedar_syntax.specs.Plain.{text_of}
 use Rattle.cedar_syntax.specs.Reading.{Reader, done, after, ◌>>=◌, either, on_next, one_at, text_at, kind_number, accept_at, rounds, looped}
 use Rattle.cedar_syntax.proofs.KindNumbers.{same_kind}
 use Rattle.cedar_syntax.specs.declared.lexer.Kind.{Kind}
@@ -53,8 +54,8 @@ pub text_token : (p : Token → Bool) (ts : List Token) (w : List ℕ) (rest : L
 text_token p [] w rest e = absurd (cc)
 text_token p (t ∷ ts) w rest e = text_here t ts (p t) w rest e
 
-pub text_finds : (p : Token → Bool) (ts : List Token) (u : Token) (rest : List Token) → IsOne (λ t. IsTrue (p t)) ts u rest → text_at p ts ≡ Some (u.text, rest)
-text_finds p ts u rest is = rw (is.front, is.has) refl
+pub text_finds : (p : Token → Bool) (ts : List Token) (w : List ℕ) (rest : List Token) → (text_of p).reads ts w rest → text_at p ts ≡ Some (w, rest)
+text_finds p ts w rest (t, mid, is, (value, same)) = rw (is.front, is.has, value, same) refl
 
 pub accept_sound : (k : Kind) (ts : List Token) (u : Token) (rest : List Token) → accept_at k ts ≡ Some (u, rest) → IsOne (λ t. t.kind ≡ k) ts u rest
 unfolding accept_at
@@ -79,6 +80,10 @@ text_takes p ts w rest e = let t = text_token p ts w rest e in one_takes p ts t.
 pub accept_takes : (k : Kind) → Takes 1 (accept_at k)
 unfolding accept_at
 accept_takes k = one_takes (λ t. kind_number t.kind == kind_number k)
+
+-- a reader that takes a token takes no fewer than none
+pub takes_some : {A : Type 0} (f : Reader A) → Takes 1 f → Takes 0 f
+takes_some f a ts x rest e = omega (arith, a ts x rest e)
 
 pub done_takes : {A : Type 0} (y : A) → Takes 0 (done y)
 done_takes y ts x rest e = let same = some_pair y x ts rest e in rw same.1 (omega arith)
@@ -142,16 +147,15 @@ then_sound f g R S a b ts y rest e =
     let p = parts_of (f ts) g y rest e in
     (p.first, p.mid, a ts p.first p.mid p.was, b p.first p.mid y rest p.then)
 
--- the text of a token, and then what g reads of it
-pub text_sound : {B : Type 0} (p : Token → Bool) (g : List ℕ → Reader B) (S : List ℕ → List Token → B → List Token → Type 0)
-    → ((w : List ℕ) → Sound (g w) (S w)) → Sound (text_at p >>= g) (Then (IsOne (λ t. IsTrue (p t))) (λ t. S t.text))
-text_sound p g S b ts y rest e =
-    let q = parts_of (text_at p ts) g y rest e in
-    let t = text_token p ts q.first q.mid q.was in
-    (t.0, q.mid, one_sound p ts t.0 q.mid t.1, subst (λ (w : List ℕ). S w q.mid y rest) t.2 (b q.first q.mid y rest q.then))
+pub text_sound : (p : Token → Bool) → Sound (text_at p) (text_of p).reads
+text_sound p ts w rest e = let t = text_token p ts w rest e in (t.0, rest, one_sound p ts t.0 rest t.1, (t.2, refl))
 
 pub done_sound : {A : Type 0} (y : A) → Sound (done y) (λ ts x rest. (x ≡ y) × (rest ≡ ts))
 done_sound y ts x rest e = let same = some_pair y x ts rest e in (sym same.0, sym same.1)
+
+-- a reading of what is the same
+pub moved : {A : Type 0} (R : List Token → A → List Token → Type 0) (ts : List Token) (x y : A) (mid rest : List Token) → (y ≡ x) × (rest ≡ mid) → R ts x mid → R ts y rest
+moved R ts x y mid rest same r = rw (same.0, same.1) r
 
 -- a token of kind j is none of kind k
 pub accept_other : (j k : Kind) (ts : List Token) (u : Token) (rest : List Token) → IsOne (λ t. t.kind ≡ j) ts u rest → kind_number j == kind_number k ≡ false → accept_at k ts ≡ None

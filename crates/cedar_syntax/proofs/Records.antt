@@ -1,13 +1,13 @@
 -- SPDX-License-Identifier: Apache-2.0
 -- The reader of records finds exactly the records of the grammar.
-use Rattle.std.proofs.Common.{◌≡◌, ℕ, zero, suc, ◌≤◌, ◌==◌, Bool, true, false, List, [], ◌∷◌, length, Some, None, ap, subst, refl, inl, inr, ⊎_elim, arith}
-use Rattle.cedar_syntax.specs.Lexing.{is_word_kind, Token}
+use Rattle.std.proofs.Common.{◌≡◌, ℕ, zero, suc, ◌≤◌, Bool, true, false, List, [], ◌∷◌, length, Some, None, ap, subst, refl, inl, inr, ⊎_elim, arith}
+use Rattle.cedar_syntax.specs.Lexing.{Token}
 use Rattle.cedar_syntax.specs.Productions.{IsOne, ReadsMany, none, more, trailing, gives, ◌∣◌, ◌>>◌, optional}
-use Rattle.cedar_syntax.specs.Plain.{TypeTree, type_upto, attribute, token, nest, greatest_nest}
-use Rattle.cedar_syntax.specs.Reading.{kind_number, done, after, text_at, accept_at, word_at, type_at, attribute_at, rounds, attribute_round, attributes_at}
-use Rattle.cedar_syntax.proofs.Readers.{parts_of, either_of, text_sound, text_finds, accept_sound, accept_finds, accept_takes, text_takes, then_takes, done_takes, text_takes, text_sound, on_next_takes, Takes, Sound, Then, then_sound, done_sound, accept_other, after_same, either_same, IsLocal, looped_step}
+use Rattle.cedar_syntax.specs.Plain.{TypeTree, type_upto, attribute, token, nest, greatest_nest, is_word_token, word}
+use Rattle.cedar_syntax.specs.Reading.{done, after, text_at, accept_at, word_at, type_at, attribute_at, rounds, attribute_round, attributes_at}
+use Rattle.cedar_syntax.proofs.Readers.{parts_of, either_of, text_sound, text_finds, accept_sound, accept_finds, accept_takes, text_takes, then_takes, done_takes, text_takes, text_sound, on_next_takes, Takes, Sound, Then, then_sound, done_sound, accept_other, after_same, either_same, IsLocal, looped_step, moved}
+use Rattle.cedar_syntax.proofs.KindNumbers.{word_is_no_mark}
 use Rattle.cedar_syntax.proofs.Types.{type_sound, type_finds, type_takes, type_nests}
-use Rattle.cedar_syntax.specs.declared.lexer.Kind.{Kind}
 use Rattle.cedar_syntax.specs.declared.lexer.Kind.TheVariants as kind
 
 abbrev pub Attribute : Type 0
@@ -16,22 +16,22 @@ Attribute = List ℕ × TypeTree
 pub attribute_sound : (n : ℕ) → Sound (attribute_at n) (attribute (type_upto n)).reads
 unfolding attribute_at word_at
 attribute_sound n =
-    text_sound (λ t. is_word_kind t.kind) _ _ (λ name.
+    then_sound (text_at is_word_token) _ word.reads _ (text_sound is_word_token) (λ name.
     then_sound _ _ _ _ (accept_sound kind.Colon) (λ _.
     then_sound (type_at n) _ (type_upto n).reads _ (type_sound n) (λ t. done_sound (name, t))))
 
 pub attribute_takes : (n : ℕ) → Takes 1 (attribute_at n)
 unfolding attribute_at word_at
 attribute_takes n =
-    then_takes 1 1 (text_at (λ t. is_word_kind t.kind)) _ (text_takes (λ t. is_word_kind t.kind)) (λ name.
+    then_takes 1 1 (text_at is_word_token) _ (text_takes is_word_token) (λ name.
     then_takes 1 1 (accept_at kind.Colon) _ (accept_takes kind.Colon) (λ _.
     then_takes 1 0 (type_at n) _ (type_takes n) (λ t. done_takes (name, t))))
 
 pub attribute_finds : (m n : ℕ) (ts : List Token) (a : Attribute) (rest : List Token) → (attribute (type_upto m)).reads ts a rest → nest a.1 ≤ n → accept_at kind.Less rest ≡ None → attribute_at n ts ≡ Some (a, rest)
 unfolding attribute_at word_at
-attribute_finds m n ts a rest (name, mid, is_word, (colon, after_colon, is_colon, (t, end, reads, (value, same)))) low stops =
+attribute_finds m n ts a rest (name, mid, reads_name, (colon, after_colon, is_colon, (t, end, reads, (value, same)))) low stops =
     let found = type_finds m n after_colon t end reads (rw value at low) (subst (λ (us : List Token). accept_at kind.Less us ≡ None) same stops) in
-    rw (text_finds (λ t. is_word_kind t.kind) ts name mid is_word, accept_finds kind.Colon mid colon after_colon is_colon, found, value, same) refl
+    rw (text_finds is_word_token ts name mid reads_name, accept_finds kind.Colon mid colon after_colon is_colon, found, value, same) refl
 
 local_attributes : (n : ℕ) → IsLocal (attribute_round n)
 local_attributes n = record {
@@ -57,44 +57,27 @@ data Attributes (R : List Token → Attribute → List Token → Type 0) : List 
 abbrev Attrs : ℕ → List Token → List Attribute → List Token → Type 0
 Attrs n = Attributes (attribute (type_upto n)).reads
 
-moved : (n : ℕ) (ts : List Token) (xs ys : List Attribute) (mid rest : List Token) → (ys ≡ xs) × (rest ≡ mid) → Attrs n ts xs mid → Attrs n ts ys rest
-moved n ts xs ys mid rest same h = rw (same.0, same.1) h
-
 rounds_sound : (n m : ℕ) → Sound (rounds (attribute_round n) m) (Attrs n)
 rounds_sound n zero ts x rest e = absurd (cc)
 rounds_sound n (suc m) ts x rest e =
     ⊎_elim
-    (λ w. moved n ts [] x w.1 rest (done_sound [] w.1 x rest w.3) (closed (accept_sound kind.Close ts w.0 w.1 w.2)))
+    (λ w. moved (Attrs n) ts [] x w.1 rest (done_sound [] w.1 x rest w.3) (closed (accept_sound kind.Close ts w.0 w.1 w.2)))
     (λ w.
     let p = parts_of (attribute_at n ts) _ x rest w.1 in
     let here = attribute_sound n ts p.first p.mid p.was in
     ⊎_elim
     (λ v.
     let q = parts_of (rounds (attribute_round n) m v.1) _ x rest v.3 in
-    moved n ts (p.first ∷ q.first) x q.mid rest (done_sound (p.first ∷ q.first) q.mid x rest q.then) (next here (accept_sound kind.Comma p.mid v.0 v.1 v.2) (rounds_sound n m v.1 q.first q.mid q.was)))
+    moved (Attrs n) ts (p.first ∷ q.first) x q.mid rest (done_sound (p.first ∷ q.first) q.mid x rest q.then) (next here (accept_sound kind.Comma p.mid v.0 v.1 v.2) (rounds_sound n m v.1 q.first q.mid q.was)))
     (λ v.
     let q = parts_of (accept_at kind.Close p.mid) _ x rest v.1 in
-    moved n ts (p.first ∷ []) x q.mid rest (done_sound (p.first ∷ []) q.mid x rest q.then) (last here (accept_sound kind.Close p.mid q.first q.mid q.was)))
+    moved (Attrs n) ts (p.first ∷ []) x q.mid rest (done_sound (p.first ∷ []) q.mid x rest q.then) (last here (accept_sound kind.Close p.mid q.first q.mid q.was)))
     (either_of (accept_at kind.Comma p.mid) _ _ (Some (x, rest)) p.then))
     (either_of (accept_at kind.Close ts) _ _ (Some (x, rest)) e)
 
--- a word is no mark
-word_number : (k : Kind) → is_word_kind k ≡ true → kind_number k == kind_number kind.Close ≡ false
-word_number kind.Entity e = refl
-word_number kind.Set e = refl
-word_number kind.Word e = refl
-word_number kind.Open e = absurd (cc)
-word_number kind.Close e = absurd (cc)
-word_number kind.Less e = absurd (cc)
-word_number kind.Greater e = absurd (cc)
-word_number kind.Comma e = absurd (cc)
-word_number kind.Semicolon e = absurd (cc)
-word_number kind.Colon e = absurd (cc)
-word_number kind.Equals e = absurd (cc)
-
 no_close : (n : ℕ) (ts : List Token) (a : Attribute) (rest : List Token) → (attribute (type_upto n)).reads ts a rest → accept_at kind.Close ts ≡ None
-no_close n ts a rest (name, mid, is_word, after_word) =
-    accept_other name.kind kind.Close ts name mid (record { front = is_word.front; has = refl }) (word_number name.kind is_word.has)
+no_close n ts a rest (name, mid, (word, after_word, is, same), others) =
+    accept_other word.kind kind.Close ts word after_word (record { front = is.front; has = refl }) (word_is_no_mark word.kind kind.Close is.has refl)
 
 -- attributes that nest at most n are found
 attributes_find : (m n : ℕ) (ts : List Token) (xs : List Attribute) (rest : List Token) → Attrs m ts xs rest → greatest_nest xs ≤ n → attributes_at n ts ≡ Some (xs, rest)
@@ -172,7 +155,7 @@ pub record_finds : (m n : ℕ) (ts : List Token) (xs : List Attribute) (rest : L
 record_finds m n ts xs rest r low = attributes_find m n ts xs rest (of_inner m ts xs rest r) low
 
 attribute_nests : (n : ℕ) (ts : List Token) (a : Attribute) (rest : List Token) → (attribute (type_upto n)).reads ts a rest → nest a.1 ≤ n
-attribute_nests n ts a rest (name, mid, is_word, (colon, after_colon, is_colon, (t, end, reads, (value, same)))) = rw value (type_nests n after_colon t end reads)
+attribute_nests n ts a rest (name, mid, reads_name, (colon, after_colon, is_colon, (t, end, reads, (value, same)))) = rw value (type_nests n after_colon t end reads)
 
 attributes_nest : (n : ℕ) (ts : List Token) (xs : List Attribute) (rest : List Token) → Attrs n ts xs rest → greatest_nest xs ≤ n
 attributes_nest n ts _ rest (closed is) = omega arith

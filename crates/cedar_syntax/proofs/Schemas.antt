@@ -5,11 +5,11 @@ use Rattle.std.proofs.lemmas.List.Elements.{All-nil, All-cons, All-head, All-tai
 use Rattle.std.specs.Prelude.{All}
 use Rattle.cedar_syntax.specs.Lexing.{Token, Lexes}
 use Rattle.cedar_syntax.specs.Productions.{none, more}
-use Rattle.cedar_syntax.specs.Plain.{type_upto, declaration, schema, greatest_nest, shape_nest, DeclTree, PlainReading, ReadsPlain}
+use Rattle.cedar_syntax.specs.Plain.{type_upto, schema, shape_nest, DeclTree, PlainReading, ReadsPlain}
 use Rattle.cedar_syntax.specs.Reading.{Reader, done, after, ◌>>=◌, declaration_at, rounds, declaration_round, schema_at}
 use Rattle.cedar_syntax.proofs.Lexed.{one_list}
 use Rattle.cedar_syntax.proofs.Readers.{parts_of, Sound, some_pair, after_same, IsLocal, looped_step}
-use Rattle.cedar_syntax.proofs.Declarations.{declaration_sound, declaration_takes, declaration_finds, declaration_nests}
+use Rattle.cedar_syntax.proofs.Declarations.{declaration_sound, declaration_takes, declaration_finds, declaration_nests, declaration_is_some}
 
 local_round : (n : ℕ) (f g : Reader (List DeclTree)) (ts : List Token) → ((us : List Token) → length us < length ts → f us ≡ g us) → declaration_round n f ts ≡ declaration_round n g ts
 local_round n f g [] same = refl
@@ -48,12 +48,12 @@ rounds_sound n (suc m) (t ∷ ts) x rest e =
     let others = rounds_sound n m p.mid q.first q.mid q.was in
     (subst (λ ds. (schema (type_upto n)).reads (t ∷ ts) ds []) same.0 (more (declaration_sound n (t ∷ ts) p.first p.mid p.was) others.0), sym same.1 ∙ others.1)
 
--- how deep the sets of all declarations nest
+-- how deep the shapes of all declarations nest
 abbrev deepest : List DeclTree → ℕ
 deepest [] = 0
-deepest (d ∷ ds) = max (greatest_nest d.attributes) (deepest ds)
+deepest (d ∷ ds) = max (shape_nest d) (deepest ds)
 
-deepest_low : (n : ℕ) (ds : List DeclTree) → All (λ d. shape_nest d ≤ n + 1) ds → deepest ds ≤ n
+deepest_low : (n : ℕ) (ds : List DeclTree) → All (λ d. shape_nest d ≤ n + 1) ds → deepest ds ≤ n + 1
 deepest_low n [] h = omega arith
 deepest_low n (d ∷ ds) h =
     let low : shape_nest d ≤ n + 1 = All-head (λ d. shape_nest d ≤ n + 1) d ds h in
@@ -65,16 +65,13 @@ all_low n ts _ rest none = All-nil (λ d. shape_nest d ≤ n + 1)
 all_low n ts _ rest (more {mid = mid} {x = d} {xs = ds} r h) =
     All-cons (λ d. shape_nest d ≤ n + 1) d ds (declaration_nests n ts d mid r) (all_low n mid ds rest h)
 
--- declarations that nest at most n are found, where they are all that there is
-schema_finds : (m n : ℕ) (ts : List Token) (ds : List DeclTree) (rest : List Token) → (schema (type_upto m)).reads ts ds rest → rest ≡ [] → deepest ds ≤ n → schema_at n ts ≡ Some (ds, [])
+-- declarations whose shapes nest at most n + 1 are found, where they are all that there is
+schema_finds : (m n : ℕ) (ts : List Token) (ds : List DeclTree) (rest : List Token) → (schema (type_upto m)).reads ts ds rest → rest ≡ [] → deepest ds ≤ n + 1 → schema_at n ts ≡ Some (ds, [])
 schema_finds m n ts _ _ none end low = rw end (schema_at-nil n)
 schema_finds m n ts _ rest (more {mid = mid} {x = d} {xs = ds} r h) end low =
     let found = declaration_finds m n ts d mid r (omega arith) in
-    let some : 0 < length ts = not_empty m ts d mid r in
+    let some : 0 < length ts = declaration_is_some m ts d mid r in
     rw (schema_at-cons n ts some, found, schema_finds m n mid ds rest h end (omega arith)) refl
-  where
-    not_empty : (m : ℕ) (ts : List Token) (d : DeclTree) (mid : List Token) → (declaration (type_upto m)).reads ts d mid → 0 < length ts
-    not_empty m ts d mid (e, left, is_entity, others) = rw is_entity.front (omega arith)
 
 -- tokens are declarations that nest at most 128 exactly where the reader at 127 finds them
 pub reader_sound : (text : List ℕ) (ts : List Token) (ds : List DeclTree) (rest : List Token) → Lexes text ts → schema_at 127 ts ≡ Some (ds, rest) → ReadsPlain text ds

@@ -1,6 +1,7 @@
 -- SPDX-License-Identifier: Apache-2.0
 -- The tree of a type that was read, level by level.
 use Rattle.std.proofs.Common.{◌≡◌, ap, ◌∙◌}
+use Rattle.std.proofs.lemmas.List.{map-id}
 use Rattle.cedar_syntax.specs.Plain.{TypeTree, SetOf, type_level, type_tree}
 use Rattle.cedar_syntax.specs.declared.plain.PlainType.{PlainType, fold_out-PlainType, map-PlainType}
 use Rattle.cedar_syntax.specs.declared.plain.PlainType.TheVariants as made
@@ -12,3 +13,6 @@ type_tree-Set t =
 
 pub type_tree-Set_of : (element t : PlainType) → element ≡ t → type_tree (made.Set element) ≡ SetOf (type_tree t)
 type_tree-Set_of element t same = type_tree-Set element ∙ ap (λ x. SetOf (type_tree x)) same
+
+-- words are their own texts
+pub ruleset same_words = (map-id)

@@ -1,17 +1,16 @@
 -- SPDX-License-Identifier: Apache-2.0
 -- The reader of types finds exactly the types of the grammar.
-use Rattle.std.proofs.Common.{◌≡◌, ℕ, zero, suc, ◌+◌, ◌-◌, ◌<◌, ◌≤◌, List, ◌∷◌, Some, None, subst, refl, inl, inr, ⊎_elim, arith}
-use Rattle.cedar_text.specs.Words.{is_id}
+use Rattle.std.proofs.Common.{◌≡◌, ℕ, zero, suc, ◌+◌, ◌-◌, ◌<◌, ◌≤◌, List, ◌∷◌, Some, None, subst, ◌∙◌, refl, inl, inr, ⊎_elim, arith}
 use Rattle.cedar_syntax.specs.Lexing.{Token}
 use Rattle.cedar_syntax.specs.Productions.{IsOne}
-use Rattle.cedar_syntax.specs.Plain.{TypeTree, Named, SetOf, type_upto, named_type, nest}
+use Rattle.cedar_syntax.specs.Plain.{TypeTree, Named, SetOf, type_upto, named_type, nest, is_ident_token, ident}
 use Rattle.cedar_syntax.specs.Reading.{done, ◌>>=◌, ◌>>◌, on_next, text_at, accept_at, ident_at, set_at, named_at, element_at, type_at}
 use Rattle.cedar_syntax.proofs.Readers.{either_of, text_sound, text_finds, accept_sound, accept_finds, accept_takes, text_takes, then_takes, done_takes, text_takes, text_sound, on_next_takes, Takes, Sound, then_sound, done_sound, accept_other, accept_front}
 use Rattle.cedar_syntax.specs.declared.lexer.Kind.TheVariants as kind
 
 named_sound : Sound named_at named_type.reads
 unfolding named_at ident_at
-named_sound = text_sound (λ t. is_id t.text) _ _ (λ name. done_sound (Named name))
+named_sound = then_sound (text_at is_ident_token) _ ident.reads _ (text_sound is_ident_token) (λ name. done_sound (Named name))
 
 set_sound : (ts : List Token) (l : Token) (rest : List Token) → set_at ts ≡ Some (l, rest)
     → (s : Token) × (mid : List Token) × IsOne (λ t. t.kind ≡ kind.Set) ts s mid × IsOne (λ t. t.kind ≡ kind.Less) mid l rest
@@ -40,7 +39,7 @@ set_takes = then_takes 1 1 (accept_at kind.Set) _ (accept_takes kind.Set) (λ _.
 
 named_takes : Takes 1 named_at
 unfolding named_at ident_at
-named_takes = then_takes 1 0 (text_at (λ t. is_id t.text)) _ (text_takes (λ t. is_id t.text)) (λ name. done_takes (Named name))
+named_takes = then_takes 1 0 (text_at is_ident_token) _ (text_takes is_ident_token) (λ name. done_takes (Named name))
 
 element_takes : (n : ℕ) → Takes 1 (element_at n)
 unfolding element_at
@@ -80,13 +79,13 @@ set_finds ts s l mid rest is less = rw (accept_finds kind.Set ts s mid is) (acce
 
 named_finds : (ts : List Token) (t : TypeTree) (rest : List Token) → named_type.reads ts t rest → named_at ts ≡ Some (t, rest)
 unfolding named_at ident_at
-named_finds ts t rest (name, mid, is, (value, left)) = rw (text_finds (λ t. is_id t.text) ts name mid is, value, left) refl
+named_finds ts t rest (name, mid, is, (value, left)) = rw (text_finds is_ident_token ts name mid is, value, left) refl
 
 named_is_found : (n : ℕ) (ts : List Token) (t : TypeTree) (rest : List Token) → named_type.reads ts t rest → accept_at kind.Less rest ≡ None → type_at n ts ≡ Some (t, rest)
 unfolding type_at
-named_is_found n ts t rest (name, mid, is, (value, left)) stops =
-    rw (no_set ts name mid is.front (subst (λ (us : List Token). accept_at kind.Less us ≡ None) left stops))
-    (named_finds ts t rest (name, mid, is, (value, left)))
+named_is_found n ts t rest (name, mid, (word, after_word, is, (text, same)), (value, left)) stops =
+    rw (no_set ts word after_word is.front (subst (λ (us : List Token). accept_at kind.Less us ≡ None) (left ∙ same) stops))
+    (named_finds ts t rest (name, mid, (word, after_word, is, (text, same)), (value, left)))
 
 -- a type that nests at most n is found before anything but `<`
 pub type_finds : (m n : ℕ) (ts : List Token) (t : TypeTree) (rest : List Token) → (type_upto m).reads ts t rest → nest t ≤ n → accept_at kind.Less rest ≡ None → type_at n ts ≡ Some (t, rest)

@@ -14,29 +14,38 @@ pub record Token : Type 0 where
   pub kind : Kind
   pub text : List ℕ
 
--- the words `entity` and `Set` are kinds of their own
+-- the words `entity`, `action`, `in` and `Set` are kinds of their own
 abbrev pub word_kind : List ℕ → Kind
-word_kind w = if bytes_eq w (codes "entity") then kind.Entity else (if bytes_eq w (codes "Set") then kind.Set else kind.Word)
+word_kind w =
+    if bytes_eq w (codes "entity") then kind.Entity
+    else (if bytes_eq w (codes "action") then kind.Action
+    else (if bytes_eq w (codes "in") then kind.In
+    else (if bytes_eq w (codes "Set") then kind.Set
+    else kind.Word)))
 
 -- the kinds of words
 abbrev pub is_word_kind : Kind → Bool
 is_word_kind kind.Entity = true
+is_word_kind kind.Action = true
+is_word_kind kind.In = true
 is_word_kind kind.Set = true
 is_word_kind kind.Word = true
 is_word_kind _ = false
 
--- the marks { } < > , ; : =
+-- the marks { } [ ] < > , ; : =
 abbrev pub mark_kind : ℕ → Option Kind
 mark_kind c =
     if c == 123 then Some kind.Open
     else (if c == 125 then Some kind.Close
+    else (if c == 91 then Some kind.OpenBracket
+    else (if c == 93 then Some kind.CloseBracket
     else (if c == 60 then Some kind.Less
     else (if c == 62 then Some kind.Greater
     else (if c == 44 then Some kind.Comma
     else (if c == 59 then Some kind.Semicolon
     else (if c == 58 then Some kind.Colon
     else (if c == 61 then Some kind.Equals
-    else None)))))))
+    else None)))))))))
 
 -- a word token of these bytes
 abbrev pub word_piece : List ℕ → Piece

@@ -1,13 +1,14 @@
 -- SPDX-License-Identifier: Apache-2.0
--- The plain grammar: entities with records of attributes, whose types are names and sets.
-use Rattle.std.specs.Prelude.{◌≡◌, ◌+◌, ◌≤◌, ℕ, zero, suc, max, IsTrue, List, [], ◌∷◌, All, map}
+-- The plain grammar: entities with parents and records of attributes, whose types are names and sets, and actions with parents.
+use Rattle.std.specs.Prelude.{◌≡◌, ◌+◌, ◌≤◌, ◌&&◌, ℕ, zero, suc, max, Bool, IsTrue, List, [], ◌∷◌, All, map}
 use Rattle.cedar_text.specs.Words.{is_id}
-use Rattle.cedar_names.specs.Identifiers.{id_word}
+use Rattle.cedar_names.specs.Identifiers.{id_word, id_words}
 use Rattle.cedar_syntax.specs.Lexing.{Token, is_word_kind, Lexes}
-use Rattle.cedar_syntax.specs.Productions.{Production, class, gives, ◌>>=◌, ◌>>◌, ◌∣◌, many, optional, trailing}
+use Rattle.cedar_syntax.specs.Productions.{Production, class, gives, ◌>>=◌, ◌>>◌, ◌∣◌, many, optional, separated, trailing, bracketed}
 use Rattle.cedar_syntax.specs.declared.lexer.Kind.{Kind}
 use Rattle.cedar_syntax.specs.declared.lexer.Kind.TheVariants as kind
 use Rattle.cedar_syntax.specs.declared.plain.PlainDecl.{PlainDecl}
+use Rattle.cedar_syntax.specs.declared.plain.PlainDecl.TheVariants as declared
 use Rattle.cedar_syntax.specs.declared.plain.PlainType.{PlainType, PlainType-F, fold-PlainType}
 use Rattle.cedar_syntax.specs.declared.plain.PlainType.TheOpen as level
 
@@ -16,22 +17,38 @@ pub data TypeTree : Type 0 where
   Named : List ℕ → TypeTree
   SetOf : TypeTree → TypeTree
 
--- a declaration: the name of an entity, and its attributes in the order of the text
-pub record DeclTree : Type 0 where
-  pub name : List ℕ
-  pub attributes : List (List ℕ × TypeTree)
+-- a declaration, its lists in the order of the text
+pub data DeclTree : Type 0 where
+  -- of entity types: names, parents, attributes
+  Entities : List (List ℕ) → List (List ℕ) → List (List ℕ × TypeTree) → DeclTree
+  -- of actions: names, parents
+  Actions : List (List ℕ) → List (List ℕ) → DeclTree
 
 -- a token of this kind
 abbrev pub token : Kind → Production Token Token
 token k = class (λ t. t.kind ≡ k)
 
--- any word: also `entity`, `Set` and the reserved ones
-abbrev pub word : Production Token Token
-word = class (λ t. IsTrue (is_word_kind t.kind))
+-- the text of a token that passes the test
+abbrev pub text_of : (Token → Bool) → Production Token (List ℕ)
+text_of p = do
+  t ← class (λ t. IsTrue (p t))
+  gives t.text
 
--- a word that is not reserved: also `entity` and `Set`
-abbrev pub ident : Production Token Token
-ident = class (λ t. IsTrue (is_id t.text))
+-- any word: also `entity`, `action`, `Set`, `in` and the other reserved ones
+abbrev pub is_word_token : Token → Bool
+is_word_token t = is_word_kind t.kind
+
+-- a word that is not reserved: also `entity`, `action` and `Set`
+abbrev pub is_ident_token : Token → Bool
+is_ident_token t = is_word_token t && is_id t.text
+
+-- Word
+abbrev pub word : Production Token (List ℕ)
+word = text_of is_word_token
+
+-- Ident
+abbrev pub ident : Production Token (List ℕ)
+ident = text_of is_ident_token
 
 -- 'Set' '<' Type '>'
 abbrev pub set_type : Production Token TypeTree → Production Token TypeTree
@@ -46,7 +63,7 @@ set_type type = do
 abbrev pub named_type : Production Token TypeTree
 named_type = do
   name ← ident
-  gives (Named name.text)
+  gives (Named name)
 
 -- Type = 'Set' '<' Type '>' | Ident, with at most n sets inside one another
 abbrev pub type_upto : ℕ → Production Token TypeTree
@@ -59,24 +76,48 @@ attribute type = do
   name ← word
   token kind.Colon
   t ← type
-  gives (name.text, t)
+  gives (name, t)
 
 -- Record = '{' [Attr {',' Attr} [',']] '}'
 abbrev pub record_type : Production Token TypeTree → Production Token (List (List ℕ × TypeTree))
-record_type type = do
-  token kind.Open
-  attributes ← trailing (token kind.Comma) (attribute type) ∣ gives []
-  token kind.Close
-  gives attributes
+record_type type = bracketed (token kind.Open) (token kind.Close) (trailing (token kind.Comma) (attribute type) ∣ gives [])
 
--- Decl = 'entity' Ident [['='] Record] ';'
-abbrev pub declaration : Production Token TypeTree → Production Token DeclTree
-declaration type = do
+-- Idents = Ident {',' Ident}, and Words = Word {',' Word}
+abbrev pub names_of : Production Token (List ℕ) → Production Token (List (List ℕ))
+names_of member = separated (token kind.Comma) member
+
+-- Types = Ident | '[' [Ident {',' Ident}] ']', and Refs = Word | '[' [Word {',' Word}] ']'
+abbrev pub parents_of : Production Token (List ℕ) → Production Token (List (List ℕ))
+parents_of member =
+    (member >>= λ name. gives (name ∷ []))
+    ∣ bracketed (token kind.OpenBracket) (token kind.CloseBracket) (names_of member ∣ gives [])
+
+-- ['in' Types], and ['in' Refs]
+abbrev pub above_of : Production Token (List ℕ) → Production Token (List (List ℕ))
+above_of member = (token kind.In >> parents_of member) ∣ gives []
+
+-- 'entity' Idents ['in' Types] [['='] Record] ';'
+abbrev pub entities : Production Token TypeTree → Production Token DeclTree
+entities type = do
   token kind.Entity
-  name ← ident
+  names ← names_of ident
+  parents ← above_of ident
   attributes ← (optional (token kind.Equals) >> record_type type) ∣ gives []
   token kind.Semicolon
-  gives (record { name = name.text; attributes = attributes })
+  gives (Entities names parents attributes)
+
+-- 'action' Words ['in' Refs] ';'
+abbrev pub actions : Production Token DeclTree
+actions = do
+  token kind.Action
+  names ← names_of word
+  parents ← above_of word
+  token kind.Semicolon
+  gives (Actions names parents)
+
+-- Decl = 'entity' Idents ['in' Types] [['='] Record] ';' | 'action' Words ['in' Refs] ';'
+abbrev pub declaration : Production Token TypeTree → Production Token DeclTree
+declaration type = entities type ∣ actions
 
 -- Schema = {Decl}
 abbrev pub schema : Production Token TypeTree → Production Token (List DeclTree)
@@ -92,9 +133,10 @@ abbrev pub greatest_nest : List (List ℕ × TypeTree) → ℕ
 greatest_nest [] = 0
 greatest_nest (a ∷ others) = max (nest a.1) (greatest_nest others)
 
--- how deep the shape of a declaration nests; the shape itself counts one
+-- how deep the shape of a declaration nests; the shape itself counts one, and actions have none
 abbrev pub shape_nest : DeclTree → ℕ
-shape_nest d = greatest_nest d.attributes + 1
+shape_nest (Entities names parents attributes) = greatest_nest attributes + 1
+shape_nest (Actions names parents) = 0
 
 -- the tokens are these declarations, with sets inside one another to any depth
 abbrev pub ReadsSchema : List Token → List DeclTree → Type 0
@@ -121,6 +163,7 @@ type_tree = fold-PlainType TypeTree type_level
 abbrev pub attribute_tree : List ℕ × PlainType → List ℕ × TypeTree
 attribute_tree a = (a.0, type_tree a.1)
 
--- the tree of a declaration that was read
+-- the tree of a declaration that was read: words in place of identifiers
 abbrev pub decl_tree : PlainDecl → DeclTree
-decl_tree d = record { name = id_word d.name; attributes = map attribute_tree d.attrs }
+decl_tree (declared.Entity names parents attrs) = Entities (id_words names) (id_words parents) (map attribute_tree attrs)
+decl_tree (declared.Action names parents) = Actions names parents

@@ -67,6 +67,14 @@ trailing separator R = do
   optional separator
   gives xs
 
+-- R between two others, of which the value keeps nothing
+abbrev pub bracketed : {T S E A : Type 0} → Production T S → Production T E → Production T A → Production T A
+bracketed before behind R = do
+  before
+  x ← R
+  behind
+  gives x
+
 -- some further tokens make the tokens a reading
 abbrev pub Completable : {T A : Type 0} → Production T A → List T → Type 0
 Completable R ts = (further : _) × (x : _) × R.reads (ts ++ further) x []

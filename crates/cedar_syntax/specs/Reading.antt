@@ -2,9 +2,8 @@
 -- How the parser goes through the tokens of the plain grammar, with at most n sets inside one another.
 -- The proofs show that it finds exactly the readings of the grammar.
 use Rattle.std.specs.Prelude.{◌≡◌, ◌==◌, ℕ, zero, suc, Bool, List, [], ◌∷◌, Option, Some, None, length, if◌then◌else◌, map, Result, MatchResult}
-use Rattle.cedar_text.specs.Words.{is_id}
-use Rattle.cedar_syntax.specs.Lexing.{is_word_kind, Token, token_of}
-use Rattle.cedar_syntax.specs.Plain.{TypeTree, Named, SetOf, DeclTree}
+use Rattle.cedar_syntax.specs.Lexing.{Token, token_of}
+use Rattle.cedar_syntax.specs.Plain.{TypeTree, Named, SetOf, DeclTree, Entities, Actions, is_word_token, is_ident_token}
 use Rattle.cedar_syntax.specs.declared.lexer.Kind.{Kind}
 use Rattle.cedar_syntax.specs.declared.lexer.Kind.TheVariants as kind
 use Rattle.cedar_syntax.specs.declared.lexer.Lexeme.{Lexeme}
@@ -56,16 +55,20 @@ text_at p (t ∷ ts) = if p t then Some (t.text, ts) else None
 -- the kinds by numbers, as the code compares them
 abbrev pub kind_number : Kind → ℕ
 kind_number kind.Entity = 0
-kind_number kind.Set = 1
-kind_number kind.Word = 2
-kind_number kind.Open = 3
-kind_number kind.Close = 4
-kind_number kind.Less = 5
-kind_number kind.Greater = 6
-kind_number kind.Comma = 7
-kind_number kind.Semicolon = 8
-kind_number kind.Colon = 9
-kind_number kind.Equals = 10
+kind_number kind.Action = 1
+kind_number kind.In = 2
+kind_number kind.Set = 3
+kind_number kind.Word = 4
+kind_number kind.Open = 5
+kind_number kind.Close = 6
+kind_number kind.OpenBracket = 7
+kind_number kind.CloseBracket = 8
+kind_number kind.Less = 9
+kind_number kind.Greater = 10
+kind_number kind.Comma = 11
+kind_number kind.Semicolon = 12
+kind_number kind.Colon = 13
+kind_number kind.Equals = 14
 
 -- a token of this kind
 unfoldable pub accept_at : Kind → Reader Token
@@ -73,11 +76,11 @@ accept_at k = one_at (λ t. kind_number t.kind == kind_number k)
 
 -- a word, a reserved one too
 unfoldable pub word_at : Reader (List ℕ)
-word_at = text_at (λ t. is_word_kind t.kind)
+word_at = text_at is_word_token
 
 -- an identifier
 unfoldable pub ident_at : Reader (List ℕ)
-ident_at = text_at (λ t. is_id t.text)
+ident_at = text_at is_ident_token
 
 -- `Set` and `<`
 unfoldable pub set_at : Reader Token
@@ -131,14 +134,50 @@ shape_at n =
     on_next (accept_at kind.Equals) (accept_at kind.Open >> attributes_at n)
     (on_next (accept_at kind.Open) (attributes_at n) (done []))
 
--- a declaration
-unfoldable pub declaration_at : ℕ → Reader DeclTree
-declaration_at n = do
-  accept_at kind.Entity
-  name ← ident_at
+-- a round over names: a name, and the next round after a comma
+abbrev pub name_round : (Token → Bool) → Reader (List (List ℕ)) → Reader (List (List ℕ))
+name_round p again =
+    text_at p >>= λ name.
+    on_next (accept_at kind.Comma) (again >>= λ others. done (name ∷ others)) (done (name ∷ []))
+
+-- the texts of tokens that pass the test, with commas between
+unfoldable pub names_at : (Token → Bool) → Reader (List (List ℕ))
+names_at p = looped (name_round p)
+
+-- the names after `[`, if there are any, and `]`
+unfoldable pub bracket_at : (Token → Bool) → Reader (List (List ℕ))
+bracket_at p =
+    on_next (accept_at kind.CloseBracket) (done [])
+    (names_at p >>= λ names. accept_at kind.CloseBracket >> done names)
+
+-- parents: names in brackets, or one name
+unfoldable pub parents_at : (Token → Bool) → Reader (List (List ℕ))
+parents_at p = on_next (accept_at kind.OpenBracket) (bracket_at p) (text_at p >>= λ name. done (name ∷ []))
+
+-- the parents after `in`, if it stands next
+unfoldable pub above_at : (Token → Bool) → Reader (List (List ℕ))
+above_at p = on_next (accept_at kind.In) (parents_at p) (done [])
+
+-- what follows `entity`
+unfoldable pub entities_at : ℕ → Reader DeclTree
+entities_at n = do
+  names ← names_at is_ident_token
+  parents ← above_at is_ident_token
   attributes ← shape_at n
   accept_at kind.Semicolon
-  done (record { name = name; attributes = attributes })
+  done (Entities names parents attributes)
+
+-- what follows `action`
+unfoldable pub actions_at : Reader DeclTree
+actions_at = do
+  names ← names_at is_word_token
+  parents ← above_at is_word_token
+  accept_at kind.Semicolon
+  done (Actions names parents)
+
+-- a declaration
+unfoldable pub declaration_at : ℕ → Reader DeclTree
+declaration_at n = on_next (accept_at kind.Action) actions_at (accept_at kind.Entity >> entities_at n)
 
 -- a round over the declarations: the end of the tokens, or a declaration and the next round
 abbrev pub declaration_round : ℕ → Reader (List DeclTree) → Reader (List DeclTree)

@@ -12,6 +12,10 @@ use std::alloc::Global;
 pub enum Kind {
     /// The word `entity`.
     Entity,
+    /// The word `action`.
+    Action,
+    /// The word `in`.
+    In,
     /// The word `Set`.
     Set,
     /// Any other word.
@@ -20,6 +24,10 @@ pub enum Kind {
     Open,
     /// `}`
     Close,
+    /// `[`
+    OpenBracket,
+    /// `]`
+    CloseBracket,
     /// `<`
     Less,
     /// `>`
@@ -39,7 +47,10 @@ impl Kind {
     pub fn is_word(self) -> bool
         ensures { result ≡ is_word_kind self }
     {
-        matches!(self, Kind::Entity | Kind::Set | Kind::Word)
+        matches!(
+            self,
+            Kind::Entity | Kind::Action | Kind::In | Kind::Set | Kind::Word
+        )
     }
 }
 
@@ -90,6 +101,10 @@ fn word_kind(word: &[u8]) -> Kind
 {
     if word == b"entity".as_slice() {
         Kind::Entity
+    } else if word == b"action".as_slice() {
+        Kind::Action
+    } else if word == b"in".as_slice() {
+        Kind::In
     } else if word == b"Set".as_slice() {
         Kind::Set
     } else {
@@ -104,6 +119,8 @@ fn mark_kind(c: char) -> Option<Kind>
     match c {
         '{' => Some(Kind::Open),
         '}' => Some(Kind::Close),
+        '[' => Some(Kind::OpenBracket),
+        ']' => Some(Kind::CloseBracket),
         '<' => Some(Kind::Less),
         '>' => Some(Kind::Greater),
         ',' => Some(Kind::Comma),

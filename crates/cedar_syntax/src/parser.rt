@@ -1,9 +1,9 @@
 // SPDX-License-Identifier: Apache-2.0
-ghost use Rattle.std.specs.Prelude.{◌≡◌, ◌<◌, ◌≤◌, length, map, IfSome, IfNone, OnOk, option_map};
+ghost use Rattle.std.specs.Prelude.{◌≡◌, ◌<◌, ◌≤◌, ℕ, List, Bool, length, map, IfSome, IfNone, OnOk, option_map};
 ghost use Rattle.cedar_names.specs.Identifiers.{id_word};
-ghost use Rattle.cedar_syntax.specs.Lexing.{token_of};
-ghost use Rattle.cedar_syntax.specs.Plain.{type_tree, attribute_tree, decl_tree};
-ghost use Rattle.cedar_syntax.specs.Reading.{tokens_of, Gives, accept_at, word_at, ident_at, set_at, type_at, attribute_at, attributes_at, shape_at, declaration_at, schema_at};
+ghost use Rattle.cedar_syntax.specs.Lexing.{Token, token_of};
+ghost use Rattle.cedar_syntax.specs.Plain.{type_tree, attribute_tree, decl_tree, is_word_token, is_ident_token};
+ghost use Rattle.cedar_syntax.specs.Reading.{tokens_of, Gives, accept_at, text_at, word_at, ident_at, set_at, type_at, attribute_at, attributes_at, shape_at, names_at, bracket_at, parents_at, above_at, entities_at, actions_at, declaration_at, schema_at};
 
 use crate::lexer::{Kind, Lexeme};
 use crate::plain::{NoPlainReading, PlainDecl, PlainType};
@@ -24,6 +24,43 @@ const SETS_AT_MOST: usize = 127;
 
 /// What a step of the parser gives.
 type Reading<T> = Out<T, NoPlainReading>;
+
+/// A name that stands in lists: an identifier, or any word.
+trait Name: Sized {
+    /// The tokens that are such names.
+    ghost passes: { Token → Bool };
+
+    /// The text of a name.
+    ghost text: { Self → List ℕ };
+
+    /// Takes such a name.
+    fn read(parser: &mut Parser<'_, '_>) -> Reading<Self>
+        ensures read { Gives text parser.new.rest.now result
+            (text_at passes (tokens_of parser.old.rest.now)) }
+        ensures shorter { OnOk result (length parser.new.rest.now < length parser.old.rest.now) };
+}
+
+impl Name for Id {
+    ghost passes = { is_ident_token };
+
+    ghost text = { id_word };
+
+    #[tactic(auto, unfolding(crate::specs::Reading::ident_at))]
+    fn read(parser: &mut Parser<'_, '_>) -> Reading<Id> {
+        parser.ident()
+    }
+}
+
+impl Name for Text {
+    ghost passes = { is_word_token };
+
+    ghost text = { λ word. word };
+
+    #[tactic(auto, unfolding(crate::specs::Reading::word_at))]
+    fn read(parser: &mut Parser<'_, '_>) -> Reading<Text> {
+        parser.word()
+    }
+}
 
 impl<'t, 'a> Parser<'t, 'a> {
     /// Takes the next token if it is of this kind.
@@ -78,7 +115,7 @@ impl<'t, 'a> Parser<'t, 'a> {
         ensures shorter { OnOk result (length self.new.rest.now < length self.old.rest.now) }
     {
         let tokens = self.rest;
-        if tokens.is_empty() {
+        if tokens.is_empty() || !tokens[0].kind.is_word() {
             return Err(Failure::Refused(NoPlainReading));
         }
         let Some(id) = Id::new(self.alloc, tokens[0].text)? else {
@@ -176,6 +213,97 @@ impl<'t, 'a> Parser<'t, 'a> {
         Ok(Items::new(self.alloc))
     }
 
+    /// Takes names with commas between, one at least.
+    fn names<N: Name + Drop>(&mut self) -> Reading<Items<N>>
+        ensures read { Gives (map N.text) self.new.rest.now result
+            (names_at N.passes (tokens_of self.old.rest.now)) }
+        ensures shorter { OnOk result (length self.new.rest.now < length self.old.rest.now) }
+    {
+        let mut names = Items::new(self.alloc);
+        'names: loop {
+            let name = N::read(self)?;
+            names.push(name)?;
+            if let None = self.accept(Kind::Comma) {
+                return Ok(names);
+            }
+        }
+    }
+
+    /// Takes the names after `[`, if there are any, and `]`.
+    #[tactic(auto, unfolding(crate::specs::Reading::bracket_at))]
+    fn bracket<N: Name + Drop>(&mut self) -> Reading<Items<N>>
+        ensures read { Gives (map N.text) self.new.rest.now result
+            (bracket_at N.passes (tokens_of self.old.rest.now)) }
+        ensures shorter { OnOk result (length self.new.rest.now < length self.old.rest.now) }
+    {
+        if let Some(_) = self.accept(Kind::CloseBracket) {
+            return Ok(Items::new(self.alloc));
+        }
+        let names = self.names()?;
+        self.expect(Kind::CloseBracket)?;
+        Ok(names)
+    }
+
+    /// Takes parents: names in brackets, or one name.
+    #[tactic(auto, unfolding(crate::specs::Reading::parents_at))]
+    fn parents<N: Name + Drop>(&mut self) -> Reading<Items<N>>
+        ensures read { Gives (map N.text) self.new.rest.now result
+            (parents_at N.passes (tokens_of self.old.rest.now)) }
+        ensures shorter { OnOk result (length self.new.rest.now < length self.old.rest.now) }
+    {
+        if let Some(_) = self.accept(Kind::OpenBracket) {
+            return self.bracket();
+        }
+        let parent = N::read(self)?;
+        let mut parents = Items::new(self.alloc);
+        parents.push(parent)?;
+        Ok(parents)
+    }
+
+    /// Takes the parents after `in`, if it stands next.
+    #[tactic(auto, unfolding(crate::specs::Reading::above_at))]
+    fn above<N: Name + Drop>(&mut self) -> Reading<Items<N>>
+        ensures read { Gives (map N.text) self.new.rest.now result
+            (above_at N.passes (tokens_of self.old.rest.now)) }
+        ensures shorter { OnOk result (length self.new.rest.now ≤ length self.old.rest.now) }
+    {
+        if let Some(_) = self.accept(Kind::In) {
+            return self.parents();
+        }
+        Ok(Items::new(self.alloc))
+    }
+
+    /// Takes what follows `entity`.
+    #[tactic(auto, unfolding(crate::specs::Reading::entities_at))]
+    fn entities(&mut self) -> Reading<PlainDecl>
+        ensures read { Gives decl_tree self.new.rest.now result
+            (entities_at SETS_AT_MOST (tokens_of self.old.rest.now)) }
+        ensures shorter { OnOk result (length self.new.rest.now < length self.old.rest.now) }
+    {
+        let names = self.names()?;
+        let parents = self.above()?;
+        let attrs = self.shape()?;
+        self.expect(Kind::Semicolon)?;
+        Ok(PlainDecl::Entity {
+            names,
+            parents,
+            attrs,
+        })
+    }
+
+    /// Takes what follows `action`.
+    #[tactic(auto, using(crate::proofs::Trees::same_words), unfolding(crate::specs::Reading::actions_at))]
+    fn actions(&mut self) -> Reading<PlainDecl>
+        ensures read { Gives decl_tree self.new.rest.now result
+            (actions_at (tokens_of self.old.rest.now)) }
+        ensures shorter { OnOk result (length self.new.rest.now < length self.old.rest.now) }
+    {
+        let names = self.names()?;
+        let parents = self.above()?;
+        self.expect(Kind::Semicolon)?;
+        Ok(PlainDecl::Action { names, parents })
+    }
+
     /// Takes a declaration.
     #[tactic(auto, unfolding(crate::specs::Reading::declaration_at))]
     fn declaration(&mut self) -> Reading<PlainDecl>
@@ -183,11 +311,11 @@ impl<'t, 'a> Parser<'t, 'a> {
             (declaration_at SETS_AT_MOST (tokens_of self.old.rest.now)) }
         ensures shorter { OnOk result (length self.new.rest.now < length self.old.rest.now) }
     {
+        if let Some(_) = self.accept(Kind::Action) {
+            return self.actions();
+        }
         self.expect(Kind::Entity)?;
-        let name = self.ident()?;
-        let attrs = self.shape()?;
-        self.expect(Kind::Semicolon)?;
-        Ok(PlainDecl { name, attrs })
+        self.entities()
     }
 
     /// Takes declarations up to the end of the tokens.

@@ -13,11 +13,19 @@ use std::alloc::Global;
 use std::error::Error;
 use std::fmt;
 
-/// A declaration of an entity type: its name, and its attributes in the order of the text.
+/// A declaration of entity types or of actions, its lists in the order of the text. All its names
+/// have the same parents, and all entity types the same attributes.
 #[derive(Debug, Drop, PartialEq, Eq)]
-pub struct PlainDecl {
-    pub name: Id,
-    pub attrs: Items<(Text, PlainType)>,
+pub enum PlainDecl {
+    Entity {
+        names: Items<Id>,
+        parents: Items<Id>,
+        attrs: Items<(Text, PlainType)>,
+    },
+    Action {
+        names: Items<Text>,
+        parents: Items<Text>,
+    },
 }
 
 /// The type of an attribute: a name, or the set of a type.
@@ -57,16 +65,42 @@ impl Dup for PlainType {
     }
 }
 
+/// A copy of some attributes.
+fn dup_attributes(alloc: Global, attrs: &Items<(Text, PlainType)>) -> Mem<Items<(Text, PlainType)>>
+    ensures { IfOk result (λ copy. copy ≡ attrs.now) }
+{
+    let mut copies = Items::new(alloc);
+    for (key, ty) in attrs.as_slice() {
+        let key = key.dup(alloc)?;
+        let ty = ty.dup(alloc)?;
+        copies.push((key, ty))?;
+    }
+    Ok(copies)
+}
+
 impl Dup for PlainDecl {
     fn dup(&self, alloc: Global) -> Mem<PlainDecl> {
-        let name = self.name.dup(alloc)?;
-        let mut attrs = Items::new(alloc);
-        for (key, ty) in self.attrs.as_slice() {
-            let key = key.dup(alloc)?;
-            let ty = ty.dup(alloc)?;
-            attrs.push((key, ty))?;
+        match self {
+            PlainDecl::Entity {
+                names,
+                parents,
+                attrs,
+            } => {
+                let names = names.dup(alloc)?;
+                let parents = parents.dup(alloc)?;
+                let attrs = dup_attributes(alloc, attrs)?;
+                Ok(PlainDecl::Entity {
+                    names,
+                    parents,
+                    attrs,
+                })
+            }
+            PlainDecl::Action { names, parents } => {
+                let names = names.dup(alloc)?;
+                let parents = parents.dup(alloc)?;
+                Ok(PlainDecl::Action { names, parents })
+            }
         }
-        Ok(PlainDecl { name, attrs })
     }
 }
 
@@ -74,14 +108,20 @@ impl Dup for PlainDecl {
 ///
 /// ```text
 /// Schema = {Decl}
-/// Decl   = 'entity' Ident [['='] Record] ';'
+/// Decl   = 'entity' Idents ['in' Types] [['='] Record] ';' | 'action' Words ['in' Refs] ';'
+/// Idents = Ident {',' Ident}
+/// Types  = Ident | '[' [Ident {',' Ident}] ']'
+/// Refs   = Word | '[' [Word {',' Word}] ']'
+/// Words  = Word {',' Word}
 /// Record = '{' [Attr {',' Attr} [',']] '}'
 /// Attr   = Word ':' Type
 /// Type   = 'Set' '<' Type '>' | Ident
 /// ```
 ///
-/// whose shapes nest at most 128: a record counts one, and each set one more. A text that isn't
-/// such declarations, or nests deeper, is refused.
+/// whose shapes nest at most 128: a record counts one, and each set one more. Any word may name an
+/// action or an attribute; an identifier is a word that isn't reserved, as `in` is. `in []` gives
+/// no parents, as where no `in` stands. A text that isn't such declarations, or nests deeper, is
+/// refused.
 pub fn read_plain(alloc: Global, text: &str) -> Out<Vec<PlainDecl>, NoPlainReading>
     ensures found { IfOk result (λ ds. ReadsPlain text.now (map decl_tree ds.items)) }
 

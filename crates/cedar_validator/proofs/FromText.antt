@@ -1,17 +1,19 @@
 -- SPDX-License-Identifier: Apache-2.0
 -- From what the declarations of a text resolve to, to the answer to the text.
-use Rattle.std.proofs.Common.{◌≡◌, ℕ, Bool, true, false, ◌||◌, ◌&&◌, not, List, [], ◌∷◌, ◌++◌, Result, Ok, Err, bytes_eq, refl, sym, ap, ◌∙◌, subst}
-use Rattle.std.specs.List.{list_any}
+use Rattle.std.proofs.Common.{◌≡◌, inl, inr, ℕ, Bool, true, false, ◌||◌, ◌&&◌, not, List, [], ◌∷◌, ◌++◌, Result, Ok, Err, bytes_eq, refl, sym, ap, ◌∙◌, subst}
+use Rattle.std.specs.List.{AllZip, list_any}
 use Rattle.std.proofs.lemmas.List.Folds.{list_any-append}
 use Rattle.cedar_data.specs.declared.memory.Failure.{Failure}
 use Rattle.cedar_data.specs.declared.memory.Failure.TheVariants as failure
+use Rattle.cedar_names.specs.declared.entity_uid.EntityUID.{EntityUID}
 use Rattle.cedar_text.specs.Lists.{elements}
+use Rattle.cedar_text.specs.declared.non_empty.NonEmpty.{NonEmpty}
 use Rattle.cedar_text.specs.Words.{has_word}
 use Rattle.cedar_syntax.specs.Plain.{DeclTree, ReadsPlain}
-use Rattle.cedar_validator.specs.Building.{Resolves}
-use Rattle.cedar_validator.specs.Declarations.{declared_names, shapes, is_unbuilt, are_distinct, IsFirstRepeat, missing}
-use Rattle.cedar_validator.specs.Denotes.{Denotes}
-use Rattle.cedar_validator.specs.WellFormed.{IsBuilt, IsWellFormed, Answers, AcceptsAs}
+use Rattle.cedar_validator.specs.Worlds.{Refuses, Resolves}
+use Rattle.cedar_validator.specs.Declarations.{declared_types, declared_actions, shapes, action_world, is_unbuilt, are_distinct, AreDistinct, IsFirstRepeat, IsRepeated, missing, missing_actions}
+use Rattle.cedar_validator.specs.Denotes.{IsActionNamed, Denotes}
+use Rattle.cedar_validator.specs.WellFormed.{IsBuilt, IsAcyclic, IsWellFormed, Fault, Cause, Answers, AcceptsAs}
 use Rattle.cedar_validator.specs.declared.errors.CedarSchemaError.{CedarSchemaError}
 use Rattle.cedar_validator.specs.declared.errors.CedarSchemaError.TheVariants as errors
 use Rattle.cedar_validator.specs.declared.schema.ValidatorSchema.{ValidatorSchema}
@@ -46,24 +48,51 @@ repeats (b ∷ before) after word again distinct = by (bytes_eq word b) refl aga
 not_distinct : (words : List (List ℕ)) (word : List ℕ) → IsFirstRepeat words word → are_distinct words ≡ true → ⊥
 not_distinct words word r distinct = repeats r.before r.after word r.again (ap are_distinct (sym r.split) ∙ distinct)
 
+-- distinct names have no repeat
+no_repeat : (ds : List DeclTree) (word : List ℕ) → AreDistinct ds → IsRepeated ds word → ⊥
+no_repeat ds word distinct (inl r) = not_distinct (declared_types ds) word r distinct.types
+no_repeat ds word distinct (inr r) = not_distinct (declared_actions ds) word r.1 distinct.actions
+
+none_named : (uids : NonEmpty EntityUID) → AllZip IsActionNamed (elements uids) [] → ⊥
+none_named uids z = absurd z
+
+-- declarations without a fault are refused for none
+no_fault : (ds : List DeclTree) → AreDistinct ds → missing ds ≡ [] → missing_actions ds ≡ [] → IsAcyclic (action_world ds) → (e : CedarSchemaError) → Fault ds e → ⊥
+no_fault ds distinct defined actions_defined acyclic errors.NotBuilt f = f
+no_fault ds distinct defined actions_defined acyclic (errors.DuplicateDeclarations name) f = no_repeat ds name distinct f
+no_fault ds distinct defined actions_defined acyclic (errors.TypeNotDefined names parent) f = let some : elements names ≡ [] = sym f.1 ∙ defined in cc
+no_fault ds distinct defined actions_defined acyclic (errors.ActionNotDefined uids) f = none_named uids (subst (λ (ws : List (List ℕ)). AllZip IsActionNamed (elements uids) ws) actions_defined f.2)
+no_fault ds distinct defined actions_defined acyclic (errors.CycleInActionHierarchy uid) f = acyclic f.3.0 f.3.2.cyclic
+
 module _ (text : List ℕ) (is_extension : List ℕ → Bool) (ts : List DeclTree) (only : (ds : List DeclTree) → ReadsPlain text ds → ts ≡ ds) where
   unbuilt : (ds : List DeclTree) → list_any (is_unbuilt is_extension) (shapes ts) ≡ true → IsBuilt text is_extension ds → ⊥
   unbuilt ds e b = true_not_false (sym e ∙ ap (λ d. list_any (is_unbuilt is_extension) (shapes d)) (only ds b.reads) ∙ b.built)
 
+  -- the cause of a refusal
+  cause : ReadsPlain text ts → (e : CedarSchemaError) → Refuses is_extension ts e → Cause text is_extension e
+  cause reads errors.NotBuilt (inl r) = λ ds b. unbuilt ds r.1 b
+  cause reads errors.NotBuilt (inr r) = absurd r.1
+  cause reads (errors.DuplicateDeclarations name) (inl r) = cc
+  cause reads (errors.DuplicateDeclarations name) (inr r) = (ts, record { reads = reads; built = r.0 }, r.1)
+  cause reads (errors.TypeNotDefined names parent) (inl r) = cc
+  cause reads (errors.TypeNotDefined names parent) (inr r) = (ts, record { reads = reads; built = r.0 }, r.1)
+  cause reads (errors.ActionNotDefined uids) (inl r) = cc
+  cause reads (errors.ActionNotDefined uids) (inr r) = (ts, record { reads = reads; built = r.0 }, r.1)
+  cause reads (errors.CycleInActionHierarchy uid) (inl r) = cc
+  cause reads (errors.CycleInActionHierarchy uid) (inr r) = (ts, record { reads = reads; built = r.0 }, r.1)
+
   -- the answer to the text
   pub text_answered : ReadsPlain text ts → (result : Result ValidatorSchema (Failure CedarSchemaError)) → Resolves is_extension ts result → Answers text is_extension result
-  text_answered reads (Ok schema) r = (ts, record { is_built = record { reads = reads; built = r.0 }; distinct = r.1; defined = r.2 }, r.3)
+  text_answered reads (Ok schema) r = (ts, record { is_built = record { reads = reads; built = r.0 }; distinct = r.1; defined = r.2; actions_defined = r.3; acyclic = r.4 }, r.5)
   text_answered reads (Err failure.NoMemory) r = tt
-  text_answered reads (Err (failure.Refused errors.NotBuilt)) r = λ ds b. unbuilt ds r b
-  text_answered reads (Err (failure.Refused (errors.DuplicateDeclarations name))) r = (ts, record { reads = reads; built = r.0 }, r.1)
-  text_answered reads (Err (failure.Refused (errors.TypeNotDefined words))) r = (ts, record { reads = reads; built = r.0 }, r.1, r.2)
+  text_answered reads (Err (failure.Refused e)) r = cause reads e r
+
+  refused_never : (e : CedarSchemaError) → Refuses is_extension ts e → (ds : List DeclTree) → IsWellFormed text is_extension ds → ⊥
+  refused_never e (inl r) ds w = unbuilt ds r.1 w.is_built
+  refused_never e (inr r) ds w = no_fault ds w.distinct w.defined w.actions_defined w.acyclic e (subst (λ (d : List DeclTree). Fault d e) (only ds w.is_built.reads) r.1)
 
   -- the answer to a well formed text
   pub text_accepted : (result : Result ValidatorSchema (Failure CedarSchemaError)) → Resolves is_extension ts result → (ds : List DeclTree) → IsWellFormed text is_extension ds → AcceptsAs ds result
-  text_accepted (Ok schema) r ds w = subst (λ (d : List DeclTree). Denotes d schema) (only ds w.is_built.reads) r.3
+  text_accepted (Ok schema) r ds w = subst (λ (d : List DeclTree). Denotes d schema) (only ds w.is_built.reads) r.5
   text_accepted (Err failure.NoMemory) r ds w = tt
-  text_accepted (Err (failure.Refused errors.NotBuilt)) r ds w = unbuilt ds r w.is_built
-  text_accepted (Err (failure.Refused (errors.DuplicateDeclarations name))) r ds w =
-      not_distinct (declared_names ts) name r.1 (ap (λ d. are_distinct (declared_names d)) (only ds w.is_built.reads) ∙ w.distinct)
-  text_accepted (Err (failure.Refused (errors.TypeNotDefined words))) r ds w =
-      let some : elements words ≡ [] = sym r.2 ∙ ap missing (only ds w.is_built.reads) ∙ w.defined in cc
+  text_accepted (Err (failure.Refused e)) r ds w = refused_never e r ds w

@@ -18,18 +18,18 @@ use Rattle.cedar_types.specs.Types.{entity_type, set_type}
 use Rattle.cedar_types.specs.declared.ty.ResolvedType.{ResolvedType}
 use Rattle.cedar_validator.specs.Declarations.{word_of, is_defined}
 use Rattle.cedar_validator.specs.Denotes.{Means, MeansEntity, Unfolds}
-use Rattle.cedar_validator.specs.Shapes.{declares}
-use Rattle.cedar_validator.proofs.Indexing.{unreserved_cmp, found}
-use Rattle.cedar_validator.proofs.WordLists.{same_word}
+use Rattle.cedar_validator.specs.Shapes.{Kept, declares}
+use Rattle.cedar_validator.specs.Worlds.{unreserved_cmp}
+use Rattle.cedar_validator.proofs.WordLists.{same_word, is_some-lookup}
 
 -- a word that is found among the names means its entity type
-pub means_entity : (es : List (UnreservedId × List (List ℕ × PlainType))) (name : UnreservedId) (e : EntityType) (ty : ResolvedType)
+pub means_entity : (es : Kept) (name : UnreservedId) (e : EntityType) (ty : ResolvedType)
     → is_some (lookup (is_at (unreserved_cmp name)) es) ≡ true → entity_words e ≡ unreserved_word name ∷ [] → ty ≡ entity_type e → MeansEntity (declares es) (unreserved_word name) ty
-means_entity es name e ty here words is = (e, sym (found es name) ∙ here, words, is)
+means_entity es name e ty here words is = (e, sym (is_some-lookup unreserved_cmp unreserved_word (λ a b. refl) es name) ∙ here, words, is)
 
 -- one that isn't found is no declared name
-pub means_none : (es : List (UnreservedId × List (List ℕ × PlainType))) (name : UnreservedId) → is_some (lookup (is_at (unreserved_cmp name)) es) ≡ false → declares es (unreserved_word name) ≡ false
-means_none es name absent = sym (found es name) ∙ absent
+pub means_none : (es : Kept) (name : UnreservedId) → is_some (lookup (is_at (unreserved_cmp name)) es) ≡ false → declares es (unreserved_word name) ≡ false
+means_none es name absent = sym (is_some-lookup unreserved_cmp unreserved_word (λ a b. refl) es name) ∙ absent
 
 no_true : (b : Bool) → IsTrue (not b) → b ≡ true → ⊥
 no_true false n e = cc
@@ -45,7 +45,7 @@ both_false false true p q = q
 both_false true b p q = p
 
 -- `__cedar` is no declared name
-pub cedar_undeclared : (es : List (UnreservedId × List (List ℕ × PlainType))) (word : List ℕ) → is_cedar word ≡ true → declares es word ≡ false
+pub cedar_undeclared : (es : Kept) (word : List ℕ) → is_cedar word ≡ true → declares es word ≡ false
 cedar_undeclared [] word cedar = refl
 cedar_undeclared (e ∷ es) word cedar =
     both_false (bytes_eq word (unreserved_word e.0)) (declares es word)

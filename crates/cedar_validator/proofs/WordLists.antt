@@ -1,6 +1,6 @@
 -- SPDX-License-Identifier: Apache-2.0
 -- Words among others, and the names of a map's entries.
-use Rattle.std.proofs.Common.{◌≡◌, ℕ, Bool, true, false, ◌||◌, ◌&&◌, not, List, [], ◌∷◌, ◌++◌, map, refl, sym, ap, ◌∙◌, bytes_eq, cond, Some}
+use Rattle.std.proofs.Common.{◌≡◌, ◌⊎◌, inl, inr, IsTrue, ℕ, Bool, true, false, ◌||◌, ◌&&◌, not, List, [], ◌∷◌, ◌++◌, map, fold, refl, sym, ap, ◌∙◌, bytes_eq, cond, Some}
 use Rattle.std.specs.declared.cmp.Ordering.{Ordering}
 use Rattle.std.specs.declared.cmp.Ordering.TheVariants.{Less, Equal, Greater}
 use Rattle.std.specs.Ordering.{is_eq, match_ordering}
@@ -14,12 +14,32 @@ use Rattle.cedar_names.specs.Order.{word_cmp}
 use Rattle.cedar_text.specs.Words.{has_word}
 use Rattle.cedar_validator.specs.Declarations.{are_distinct}
 
+pub or_left : (a b : Bool) → a ≡ true → (a || b) ≡ true
+or_left true b e = refl
+or_left false b e = cc
+
+pub or_right : (a b : Bool) → b ≡ true → (a || b) ≡ true
+or_right true b e = refl
+or_right false b e = e
+
+pub or_case : (a b : Bool) → (a || b) ≡ true → (a ≡ true) ⊎ (b ≡ true)
+or_case true b e = inl refl
+or_case false b e = inr e
+
+pub and_both : (a b : Bool) → (a && b) ≡ true → (a ≡ true) × (b ≡ true)
+and_both true true e = (refl, refl)
+and_both true false e = cc
+and_both false b e = cc
+
 -- equal words are the same
 pub same_word : (a b : List ℕ) → bytes_eq a b ≡ true → a ≡ b
 same_word a b e = (bytes_eq-Decides a b).0 e
 
 pub same_itself : (a : List ℕ) → bytes_eq a a ≡ true
 same_itself a = (bytes_eq-Decides a a).1 refl
+
+pub same_back : (a b : List ℕ) → bytes_eq a b ≡ true → bytes_eq b a ≡ true
+same_back a b e = ap (bytes_eq b) (same_word a b e) ∙ same_itself b
 
 -- words that differ one way differ the other way
 pub differ_back : (a b : List ℕ) → bytes_eq a b ≡ false → bytes_eq b a ≡ false
@@ -68,27 +88,50 @@ or_same : (a c : Bool) → (a || c) ≡ (a || (a || c))
 or_same false c = refl
 or_same true c = refl
 
-module _ {V : Type 0} where
-  -- the names of the entries after one is put in
-  pub has_word-insert_entry : (es : List (List ℕ × V)) (k : List ℕ) (v : V) (word : List ℕ) → has_word (keys_of (insert_entry word_cmp es k v)) word ≡ (bytes_eq word k || has_word (keys_of es) word)
-  has_word-insert_entry [] k v word = refl
-  has_word-insert_entry (e ∷ es) k v word = by (word_cmp k e.0) refl (has_word-insert_entry es k v word)
+module _ {K V : Type 0} (cmp : K → K → Ordering) (word : K → List ℕ) (by_word : (a b : K) → cmp a b ≡ word_cmp (word a) (word b)) where
+  -- the words of the names after an entry is put in
+  pub has_word-inserted : (es : List (K × V)) (k : K) (v : V) (w : List ℕ)
+      → has_word (map word (keys_of (insert_entry cmp es k v))) w ≡ (bytes_eq w (word k) || has_word (map word (keys_of es)) w)
+  has_word-inserted [] k v w = refl
+  has_word-inserted (e ∷ es) k v w = by (cmp k e.0) refl (has_word-inserted es k v w)
     where
-      by : (o : Ordering) → word_cmp k e.0 ≡ o → has_word (keys_of (insert_entry word_cmp es k v)) word ≡ (bytes_eq word k || has_word (keys_of es) word)
-          → has_word (keys_of (match_ordering o ((k, v) ∷ e ∷ es) ((e.0, v) ∷ es) (e ∷ insert_entry word_cmp es k v))) word ≡ (bytes_eq word k || (bytes_eq word e.0 || has_word (keys_of es) word))
+      by : (o : Ordering) → cmp k e.0 ≡ o → has_word (map word (keys_of (insert_entry cmp es k v))) w ≡ (bytes_eq w (word k) || has_word (map word (keys_of es)) w)
+          → has_word (map word (keys_of (match_ordering o ((k, v) ∷ e ∷ es) ((e.0, v) ∷ es) (e ∷ insert_entry cmp es k v)))) w ≡ (bytes_eq w (word k) || (bytes_eq w (word e.0) || has_word (map word (keys_of es)) w))
       by Less h r = refl
       by Equal h r =
-          let same : k ≡ e.0 = same_word k e.0 (sym (is_eq-slice_cmp k e.0) ∙ ap is_eq h) in
-          or_same (bytes_eq word e.0) (has_word (keys_of es) word) ∙ ap (λ w. bytes_eq word w || (bytes_eq word e.0 || has_word (keys_of es) word)) (sym same)
-      by Greater h r = ap (λ t. bytes_eq word e.0 || t) r ∙ or_swap (bytes_eq word e.0) (bytes_eq word k) (has_word (keys_of es) word)
+          let same : word k ≡ word e.0 = same_word (word k) (word e.0) (sym (is_eq-slice_cmp (word k) (word e.0)) ∙ ap is_eq (sym (by_word k e.0) ∙ h)) in
+          or_same (bytes_eq w (word e.0)) (has_word (map word (keys_of es)) w) ∙ ap (λ v. bytes_eq w v || (bytes_eq w (word e.0) || has_word (map word (keys_of es)) w)) (sym same)
+      by Greater h r = ap (λ t. bytes_eq w (word e.0) || t) r ∙ or_swap (bytes_eq w (word e.0)) (bytes_eq w (word k)) (has_word (map word (keys_of es)) w)
 
-module _ {K V : Type 0} (name : K → List ℕ) where
-  -- a look-up by name finds something exactly where the name is among those of the entries
-  pub is_some-lookup : (es : List (K × V)) (k : K) → is_some (lookup (is_at (λ q. word_cmp (name k) (name q))) es) ≡ has_word (map (λ e. name e.0) es) (name k)
-  is_some-lookup [] k = refl
-  is_some-lookup (e ∷ es) k = by (is_eq (word_cmp (name k) (name e.0))) (is_eq-slice_cmp (name k) (name e.0)) (is_some-lookup es k)
+  -- the words of the names of a map are those of the pairs that make it
+  pub has_word-made : (pairs es : List (K × V)) (w : List ℕ)
+      → has_word (map word (keys_of (fold (λ es pair. insert_entry cmp es pair.0 pair.1) es pairs))) w ≡ (has_word (map word (keys_of pairs)) w || has_word (map word (keys_of es)) w)
+  has_word-made [] es w = refl
+  has_word-made (p ∷ pairs) es w =
+      has_word-made pairs (insert_entry cmp es p.0 p.1) w
+      ∙ ap (λ b. has_word (map word (keys_of pairs)) w || b) (has_word-inserted es p.0 p.1 w)
+      ∙ or_turn (has_word (map word (keys_of pairs)) w) (bytes_eq w (word p.0)) (has_word (map word (keys_of es)) w)
     where
-      by : (t : Bool) → t ≡ bytes_eq (name k) (name e.0) → is_some (lookup (is_at (λ q. word_cmp (name k) (name q))) es) ≡ has_word (map (λ e. name e.0) es) (name k)
-          → is_some (cond t (Some e.1) (lookup (is_at (λ q. word_cmp (name k) (name q))) es)) ≡ (bytes_eq (name k) (name e.0) || has_word (map (λ e. name e.0) es) (name k))
-      by true h r = ap (λ b. b || has_word (map (λ e. name e.0) es) (name k)) h
-      by false h r = r ∙ ap (λ b. b || has_word (map (λ e. name e.0) es) (name k)) h
+      or_turn : (a b c : Bool) → (a || (b || c)) ≡ ((b || a) || c)
+      or_turn false false c = refl
+      or_turn false true c = refl
+      or_turn true false c = refl
+      or_turn true true c = refl
+
+  -- a look-up by name finds something exactly where its word is among those of the names
+  pub is_some-lookup : (es : List (K × V)) (k : K) → is_some (lookup (is_at (cmp k)) es) ≡ has_word (map word (keys_of es)) (word k)
+  is_some-lookup [] k = refl
+  is_some-lookup (e ∷ es) k = by (is_eq (cmp k e.0)) (ap is_eq (by_word k e.0) ∙ is_eq-slice_cmp (word k) (word e.0)) (is_some-lookup es k)
+    where
+      by : (t : Bool) → t ≡ bytes_eq (word k) (word e.0) → is_some (lookup (is_at (cmp k)) es) ≡ has_word (map word (keys_of es)) (word k)
+          → is_some (cond t (Some e.1) (lookup (is_at (cmp k)) es)) ≡ (bytes_eq (word k) (word e.0) || has_word (map word (keys_of es)) (word k))
+      by true h r = ap (λ b. b || has_word (map word (keys_of es)) (word k)) h
+      by false h r = r ∙ ap (λ b. b || has_word (map word (keys_of es)) (word k)) h
+
+pub same_words : (words : List (List ℕ)) → map (λ w. w) words ≡ words
+same_words [] = refl
+same_words (w ∷ words) = ap (λ l. w ∷ l) (same_words words)
+
+-- a look-up by word finds something exactly where the word is among the names
+pub text_found : {V : Type 0} (es : List (List ℕ × V)) (k : List ℕ) → is_some (lookup (is_at (word_cmp k)) es) ≡ has_word (keys_of es) k
+text_found es k = is_some-lookup word_cmp (λ w. w) (λ a b. refl) es k ∙ ap (λ ws. has_word ws k) (same_words (keys_of es))

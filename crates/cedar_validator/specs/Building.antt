@@ -1,41 +1,53 @@
 -- SPDX-License-Identifier: Apache-2.0
 -- The steps of resolving, as facts on what they keep.
-use Rattle.std.specs.Prelude.{◌≡◌, ◌++◌, ℕ, Bool, true, false, List, [], Result, Ok, Err, IsTrue, option_to_list}
-use Rattle.std.specs.List.{list_any, filter_map}
+use Rattle.std.specs.Prelude.{◌≡◌, ◌++◌, ◌↔◌, ℕ, Bool, IsTrue, List, [], flat_map}
 use Rattle.std.specs.BTreeMap.{insert_entry}
-use Rattle.cedar_data.specs.declared.memory.Failure.{Failure}
-use Rattle.cedar_data.specs.declared.memory.Failure.TheVariants as failure
+use Rattle.std.specs.declared.cmp.Ordering.{Ordering}
+use Rattle.std.specs.List.{AllZip}
+use Rattle.cedar_names.specs.declared.entity_uid.EntityUID.{EntityUID}
 use Rattle.cedar_text.specs.Lists.{elements}
-use Rattle.cedar_names.specs.Names.{entity_cmp}
-use Rattle.cedar_names.specs.declared.name.EntityType.{EntityType}
-use Rattle.cedar_syntax.specs.Plain.{DeclTree, TypeTree}
-use Rattle.cedar_validator.specs.Declarations.{declared_names, shapes, is_unbuilt, are_distinct, IsFirstRepeat, first_undefined, missing}
-use Rattle.cedar_validator.specs.Denotes.{DenotesEntry, Denotes}
+use Rattle.cedar_types.specs.Closure.{IsLeastOnCycle}
+use Rattle.cedar_validator.specs.Children.{is_child}
+use Rattle.cedar_validator.specs.Declarations.{Shaped, missing_of, misses_parent, missing_parents}
+use Rattle.cedar_validator.specs.Denotes.{HasBelow, IsActionNamed, DenotesAction}
+use Rattle.cedar_validator.specs.Descents.{Kin, Member}
 use Rattle.cedar_validator.specs.declared.errors.CedarSchemaError.{CedarSchemaError}
-use Rattle.cedar_validator.specs.declared.errors.CedarSchemaError.TheVariants as errors
-use Rattle.cedar_validator.specs.declared.schema.ValidatorEntityType.{ValidatorEntityType}
-use Rattle.cedar_validator.specs.declared.schema.ValidatorSchema.{ValidatorSchema}
+use Rattle.cedar_validator.specs.declared.errors.CedarSchemaError.TheVariants.{TypeNotDefined, ActionNotDefined, CycleInActionHierarchy}
+use Rattle.cedar_validator.specs.Schemas.{uid_cmp, action_descendants}
+use Rattle.cedar_validator.specs.declared.action.ValidatorActionId.{ValidatorActionId}
+use Rattle.cedar_text.specs.declared.non_empty.NonEmpty.{NonEmpty}
 
--- a name with its attributes by name
-abbrev pub Shaped : Type 0
-Shaped = List ℕ × List (List ℕ × TypeTree)
+-- the children of each name are those that have it as a parent
+abbrev pub Gathers : {C : Type 0} → (C → List ℕ → Type 0) → (C → C → Ordering) → Kin → List (List ℕ × List C) → Type 0
+Gathers IsNamed cmp kin children = (name : List ℕ) → HasBelow IsNamed (Member kin) name (is_child cmp children name)
 
--- the first words that mean nothing, of each shape that has one
-abbrev pub missing_of : (List ℕ → Bool) → List Shaped → List (List ℕ)
-missing_of declared ss = filter_map (λ s. first_undefined declared s.1) ss
+-- what an item refers to in vain is kept as missing; where nothing is missing, an entry for it is put among the others
+pub record Adds {W K V : Type 0} (miss : W → List (List ℕ)) (R : W → K × V → Type 0) (cmp : K → K → Ordering) (w : W) (old new : List (K × V)) (before after : List (List ℕ)) : Type 0 where
+  pub missing_is : after ≡ before ++ miss w
+  pub made_is : after ≡ [] → (k : K) × (v : V) × R w (k, v) × (new ≡ insert_entry cmp old k v)
 
--- the shape's first word that means nothing is kept as missing; where nothing is missing, its entity type is put among the others
-pub record Adds (declared : List ℕ → Bool) (s : Shaped) (old new : List (EntityType × ValidatorEntityType)) (missing_before missing_after : List (List ℕ)) : Type 0 where
-  pub missing_is : missing_after ≡ missing_before ++ option_to_list (first_undefined declared s.1)
-  pub types_are : missing_after ≡ [] → (entity : EntityType) × (ty : ValidatorEntityType) × DenotesEntry declared s (entity, ty) × (new ≡ insert_entry entity_cmp old entity ty)
+-- the error tells what these entity types refer to in vain
+pub record MissesTypes (declared : List ℕ → Bool) (ss : Shaped) (e : CedarSchemaError) : Type 0 where
+  pub names : NonEmpty (List ℕ)
+  pub is : e ≡ TypeNotDefined names (misses_parent declared ss)
+  pub missing : missing_of declared ss ≡ elements names
 
--- what declarations resolve to: the schema that they denote, or the first of the three refusals that holds
-abbrev pub Resolves : (List ℕ → Bool) → List DeclTree → Result ValidatorSchema (Failure CedarSchemaError) → Type 0
-Resolves is_extension ds (Ok schema) =
-    (list_any (is_unbuilt is_extension) (shapes ds) ≡ false) × IsTrue (are_distinct (declared_names ds)) × (missing ds ≡ []) × Denotes ds schema
-Resolves is_extension ds (Err failure.NoMemory) = Unit {0}
-Resolves is_extension ds (Err (failure.Refused errors.NotBuilt)) = list_any (is_unbuilt is_extension) (shapes ds) ≡ true
-Resolves is_extension ds (Err (failure.Refused (errors.DuplicateDeclarations name))) =
-    (list_any (is_unbuilt is_extension) (shapes ds) ≡ false) × IsFirstRepeat (declared_names ds) name
-Resolves is_extension ds (Err (failure.Refused (errors.TypeNotDefined words))) =
-    (list_any (is_unbuilt is_extension) (shapes ds) ≡ false) × IsTrue (are_distinct (declared_names ds)) × (missing ds ≡ elements words)
+-- the error tells the parents of these actions that aren't declared
+pub record MissesActions (declared : List ℕ → Bool) (kin : Kin) (e : CedarSchemaError) : Type 0 where
+  pub uids : NonEmpty EntityUID
+  pub is : e ≡ ActionNotDefined uids
+  pub named : AllZip IsActionNamed (elements uids) (missing_parents declared kin)
+
+-- an action of this name, with its children as descendants, is put among the others
+pub record PutsAction (kin : Kin) (name : List ℕ) (old new : List (EntityUID × ValidatorActionId)) : Type 0 where
+  pub key : EntityUID
+  pub action : ValidatorActionId
+  pub named : IsActionNamed key name
+  pub denotes : DenotesAction (Member kin) name action
+  pub put : new ≡ insert_entry uid_cmp old key action
+
+-- the error tells the least action that reaches itself
+pub record IsOnCycle (actions : List (EntityUID × ValidatorActionId)) (e : CedarSchemaError) : Type 0 where
+  pub uid : EntityUID
+  pub is : e ≡ CycleInActionHierarchy uid
+  pub least : IsLeastOnCycle uid_cmp action_descendants actions uid

@@ -1,10 +1,13 @@
 -- SPDX-License-Identifier: Apache-2.0
 pub mod Building
+pub mod Children
 pub mod Declarations
 pub mod Denotes
-pub mod Refusals
+pub mod Descents
+pub mod NodeLaws
 pub mod Schemas
 pub mod Shapes
 pub mod Texts
 pub mod UndefinedWords
 pub mod WellFormed
+pub mod Worlds

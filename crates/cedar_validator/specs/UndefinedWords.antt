@@ -1,13 +1,28 @@
 -- SPDX-License-Identifier: Apache-2.0
--- The text on type words that mean nothing.
-use Rattle.std.specs.Prelude.{◌++◌, ℕ, List, [], ◌∷◌, codes}
+-- The texts on references to what isn't declared.
+use Rattle.std.specs.Prelude.{◌++◌, ℕ, Bool, true, false, List, [], ◌∷◌, map, codes}
 use Rattle.std.specs.List.{flat_map}
+use Rattle.cedar_names.specs.EntityUids.{uid_text}
+use Rattle.cedar_names.specs.declared.entity_uid.EntityUID.{EntityUID}
 
--- `type`, or `types` where there are others
-abbrev pub type_or_types : List (List ℕ) → List ℕ
-type_or_types [] = codes "type"
-type_or_types (word ∷ words) = codes "types"
+-- a noun in the singular, or in the plural where there are others
+abbrev pub noun : {T : Type 0} → List ℕ → List ℕ → List T → List ℕ
+noun one many [] = one
+noun one many (other ∷ others) = many
+
+-- texts, each after a comma
+abbrev pub others_text : List (List ℕ) → List ℕ
+others_text others = flat_map (λ other. codes ", " ++ other) others
 
 -- the words, joined by commas
 abbrev pub undefined_text : List ℕ → List (List ℕ) → List ℕ
-undefined_text word words = codes "failed to resolve " ++ type_or_types words ++ codes ": " ++ word ++ flat_map (λ other. codes ", " ++ other) words
+undefined_text word words = codes "failed to resolve " ++ noun (codes "type") (codes "types") words ++ codes ": " ++ word ++ others_text words
+
+-- the actions, joined by commas
+abbrev pub undeclared_text : EntityUID → List EntityUID → List ℕ
+undeclared_text uid uids = codes "undeclared " ++ noun (codes "action") (codes "actions") uids ++ codes ": " ++ uid_text uid ++ others_text (map uid_text uids)
+
+-- the help on a word that means nothing: a parent could have been declared as an entity type alone
+abbrev pub undefined_help : List ℕ → Bool → List ℕ
+undefined_help word true = codes "`" ++ word ++ codes "` has not been declared as an entity type"
+undefined_help word false = codes "`" ++ word ++ codes "` has not been declared as a common or entity type"

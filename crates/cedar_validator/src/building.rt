@@ -1,39 +1,82 @@
 // SPDX-License-Identifier: Apache-2.0
-ghost use Rattle.std.specs.Prelude.{◌≡◌, [], map, IfOk, IfErr, OnOk};
-ghost use Rattle.std.specs.List.{AllZip};
-ghost use Rattle.cedar_names.specs.Extensions.{extension_words};
-ghost use Rattle.cedar_names.specs.Identifiers.{unreserved_word};
-ghost use Rattle.cedar_text.specs.Words.{has_word};
-ghost use Rattle.cedar_syntax.specs.Plain.{decl_tree};
-ghost use Rattle.cedar_validator.specs.Building.{missing_of, Adds, Resolves};
-ghost use Rattle.cedar_validator.specs.Denotes.{DenotesEntry};
-ghost use Rattle.cedar_validator.specs.Refusals.{RefusesMissing};
-ghost use Rattle.cedar_validator.specs.Schemas.{types};
-ghost use Rattle.cedar_validator.specs.Shapes.{attribute_trees, kept_world, declares};
+ghost use Rattle.std.specs.Prelude.{◌≡◌, ◌++◌, [], not, map, IfOk, OnOk};
+ghost use Rattle.std.specs.List.{AllZip, list_any};
+ghost use Rattle.cedar_names.specs.Identifiers.{id_word, id_words};
+ghost use Rattle.cedar_names.specs.Names.{entity_cmp};
+ghost use Rattle.cedar_text.specs.Failures.{IfRefused};
+ghost use Rattle.cedar_types.specs.Closure.{IsClosure};
+ghost use Rattle.cedar_validator.specs.Building.{Gathers, Adds, MissesTypes};
+ghost use Rattle.cedar_validator.specs.Declarations.{kin_of, undeclared, missing_in, missing_of, misses_parent};
+ghost use Rattle.cedar_validator.specs.Denotes.{IsTypeNamed, DenotesEntry};
+ghost use Rattle.cedar_validator.specs.Descents.{Member};
+ghost use Rattle.cedar_validator.specs.Schemas.{type_name, type_descendants, type_with};
+ghost use Rattle.cedar_validator.specs.Shapes.{kept_entry, kept_shapes, shape_of, declares};
 
+use crate::children::{Children, children_of, link};
 use crate::errors::CedarSchemaError;
-use crate::resolve::{entity_named, resolve_attributes};
-use crate::schema::{ValidatorEntityType, ValidatorSchema};
-use crate::shapes::shapes_of;
-use crate::world::{World, index};
-use cedar_data::{Dup, Failure, Map, Mem, NoMemory, Out, Text};
-use cedar_names::{EntityType, Extensions, NonEmpty, UnreservedId};
-use cedar_syntax::{PlainDecl, PlainType};
+use crate::resolve::{entity_named, is_declared, misses_type, resolve_attributes};
+use crate::schema::ValidatorEntityType;
+use crate::world::{EntityShape, World};
+use cedar_data::{Dup, Failure, Items, Map, Mem, NoMemory, Out, Text};
+use cedar_names::{EntityType, Id, NonEmpty, UnreservedId};
+use cedar_types::compute_tc;
 use std::alloc::Global;
+use std::collections::BTreeMap;
 
-/// Puts the entity type of this name with these attributes among the others. A type word that means
-/// nothing is kept as missing instead, and where one is missing no type is put in.
+/// The entity types of a schema by name.
+pub type Types = Map<EntityType, ValidatorEntityType>;
+
+/// The entity types that have each name as a parent.
+fn type_children(alloc: Global, world: &World) -> Mem<Children<EntityType>>
+    ensures { IfOk result (λ children. Gathers IsTypeNamed entity_cmp (kin_of (kept_shapes world.now)) children.entries) }
+{
+    let mut children = BTreeMap::new(alloc);
+    for (name, shape) in world.iter() {
+        let child = entity_named(alloc, name.dup(alloc)?);
+        link(alloc, shape.parents.get(), &child, &mut children)?;
+    }
+    Ok(children)
+}
+
+/// Keeps the parents that aren't declared as missing, and answers whether there are any.
+fn keep_undeclared(
+    alloc: Global,
+    parents: &Items<Id>,
+    world: &World,
+    missing: &mut Vec<Text>,
+) -> Mem<bool>
+    ensures kept { OnOk result (missing.new.items ≡ missing.old.items ++ undeclared (declares world.now) (id_words parents.now)) }
+    ensures found { IfOk result (λ found. found ≡ list_any (λ parent. not (declares world.now parent)) (id_words parents.now)) }
+{
+    let mut found = false;
+    for parent in parents.iter() {
+        if !is_declared(alloc, parent, world)? {
+            let word = Text::new(alloc, parent.as_ref())?;
+            missing.push(word)?;
+            found = true;
+        }
+    }
+    Ok(found)
+}
+
+/// Puts the entity type of this name and shape among the others, with its children as descendants. What it refers to
+/// in vain is kept as missing instead, and where something is missing no type is put in.
 fn add_type(
     alloc: Global,
     name: &UnreservedId,
-    written: &Map<Text, PlainType>,
+    shape: &EntityShape,
     world: &World,
-    types: &mut Map<EntityType, ValidatorEntityType>,
+    children: &Children<EntityType>,
+    types: &mut Types,
     missing: &mut Vec<Text>,
 ) -> Mem<()>
-    ensures { OnOk result (Adds (declares world.now) (unreserved_word name.now, attribute_trees written.now) types.old types.new missing.old.items missing.new.items) }
+    requires { Gathers IsTypeNamed entity_cmp (kin_of (kept_shapes world.now)) children.now.entries }
+    ensures { OnOk result (Adds (λ e. missing_in (declares world.now) (kept_entry e).1) (λ e entry. DenotesEntry (declares world.now) (Member (kin_of (kept_shapes world.now))) (kept_entry e) entry) entity_cmp (name.now, shape.now) types.old types.new missing.old.items missing.new.items) }
 {
-    let attributes = match resolve_attributes(alloc, written, world) {
+    if keep_undeclared(alloc, shape.parents.get(), world, missing)? {
+        return Ok(());
+    }
+    let attributes = match resolve_attributes(alloc, shape.attributes.get(), world) {
         Ok(attributes) => attributes,
         Err(Failure::Refused(word)) => {
             missing.push(word)?;
@@ -43,40 +86,61 @@ fn add_type(
     };
     if missing.is_empty() {
         let key = entity_named(alloc, name.dup(alloc)?);
+        let descendants = children_of(alloc, name.as_ref(), children)?;
         let entity = key.dup(alloc)?;
-        let ty = ValidatorEntityType::plain(alloc, entity, attributes);
+        let ty = ValidatorEntityType::plain(entity, descendants, attributes);
         types.put(key, ty)?;
     }
     Ok(())
 }
 
-/// The schema of a world; refused where some type word means nothing, with the first such word of each shape.
-#[tactic(auto, using(crate::proofs::BuildingLemmas::building))]
-fn resolve_world(alloc: Global, world: &World) -> Out<ValidatorSchema, CedarSchemaError>
-    ensures types { IfOk result (λ schema. AllZip (DenotesEntry (declares world.now)) (kept_world world.now) (types schema)) }
-    ensures defined { IfOk result (λ schema. missing_of (declares world.now) (kept_world world.now) ≡ []) }
-    ensures err { IfErr result (RefusesMissing (missing_of (declares world.now) (kept_world world.now))) }
+/// Whether the first that entity types refer to in vain is a parent.
+fn misses_parent(alloc: Global, world: &World) -> Mem<bool>
+    ensures { IfOk result (λ parent. parent ≡ misses_parent (declares world.now) (kept_shapes world.now)) }
 {
+    for (_, shape) in world.iter() {
+        let mut undeclared = Vec::new(alloc);
+        if keep_undeclared(alloc, shape.parents.get(), world, &mut undeclared)? {
+            return Ok(true);
+        }
+        if misses_type(alloc, shape.attributes.get(), world)? {
+            return Ok(false);
+        }
+    }
+    Ok(false)
+}
+
+/// The entity types of a world, with their children as descendants; refused with what they refer to in vain.
+pub fn resolve_types(alloc: Global, world: &World) -> Out<Types, CedarSchemaError>
+    ensures types { IfOk result (λ types. AllZip (DenotesEntry (declares world.now) (Member (kin_of (kept_shapes world.now)))) (kept_shapes world.now) types) }
+    ensures defined { IfOk result (λ types. missing_of (declares world.now) (kept_shapes world.now) ≡ []) }
+    ensures refused { IfRefused result (MissesTypes (declares world.now) (kept_shapes world.now)) }
+{
+    let children = type_children(alloc, world)?;
     let mut types = Map::new(alloc);
     let mut missing = Vec::new(alloc);
-    for (name, written) in world.iter() {
-        add_type(alloc, name, written, world, &mut types, &mut missing)?;
+    for (name, shape) in world.iter() {
+        add_type(alloc, name, shape, world, &children, &mut types, &mut missing)?;
     }
     match NonEmpty::from_vec(missing) {
-        None => Ok(ValidatorSchema::from_types(types)),
-        Some(names) => Err(Failure::Refused(CedarSchemaError::TypeNotDefined { names })),
+        None => Ok(types),
+        Some(names) => {
+            let parent = misses_parent(alloc, world)?;
+            Err(Failure::Refused(CedarSchemaError::TypeNotDefined {
+                names,
+                parent,
+            }))
+        }
     }
 }
 
-/// The schema that declarations denote, or why they are refused.
-pub fn resolve(
-    alloc: Global,
-    decls: Vec<PlainDecl>,
-    extensions: &Extensions,
-) -> Out<ValidatorSchema, CedarSchemaError>
-    ensures { Resolves (has_word (extension_words extensions.now)) (map decl_tree decls.items) result }
+/// The same entity types with all that descend from them.
+pub fn close_types(alloc: Global, types: Types) -> Mem<Types>
+    ensures { IfOk result (λ closed. IsClosure entity_cmp type_name type_descendants (type_with []) types closed) }
 {
-    let shapes = shapes_of(alloc, decls, extensions)?;
-    let world = index(alloc, shapes)?;
-    resolve_world(alloc, &world)
+    match compute_tc(alloc, types.into_map(), false) {
+        Ok(closed) => Ok(Map::from_map(closed)),
+        Err(Failure::Refused(_)) => unreachable!(),
+        Err(Failure::NoMemory) => Err(NoMemory),
+    }
 }

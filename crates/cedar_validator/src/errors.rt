@@ -1,13 +1,13 @@
 // SPDX-License-Identifier: Apache-2.0
-ghost use Rattle.std.specs.Prelude.{◌≡◌, ◌++◌, [], IfOk, codes};
+ghost use Rattle.std.specs.Prelude.{◌≡◌, [], IfOk, map};
 ghost use Rattle.std.specs.Fmt.{WritesOnOk};
-ghost use Rattle.std.specs.List.{flat_map};
 ghost use Rattle.std.specs.Option.{option_map};
 ghost use Rattle.std.specs.String.{string_bytes};
-ghost use Rattle.cedar_validator.specs.UndefinedWords.{type_or_types, undefined_text};
+ghost use Rattle.cedar_names.specs.EntityUids.{uid_text};
+ghost use Rattle.cedar_validator.specs.UndefinedWords.{noun, others_text, undefined_text, undeclared_text, undefined_help};
 
 use cedar_data::{Dup, Mem, Text};
-use cedar_names::{NonEmpty, Span};
+use cedar_names::{EntityUID, NonEmpty, Span};
 use std::alloc::Global;
 use std::error::Error;
 use std::fmt;
@@ -19,8 +19,16 @@ pub enum CedarSchemaError {
     NotBuilt,
     /// Two declarations have this name, the first in the text that stands a second time.
     DuplicateDeclarations { name: Text },
-    /// For each entity type in order, the first type word of its shape that means nothing.
-    TypeNotDefined { names: NonEmpty<Text> },
+    /// For each entity type in order, all its parents that aren't declared, or where there are none the first type
+    /// word of its shape that means nothing. `parent` tells whether the first of these words is a parent.
+    TypeNotDefined {
+        names: NonEmpty<Text>,
+        parent: bool,
+    },
+    /// For each action in order, all its parents that aren't declared.
+    ActionNotDefined { uids: NonEmpty<EntityUID> },
+    /// This action descends from itself, and no lesser one does.
+    CycleInActionHierarchy { uid: EntityUID },
 }
 
 impl CedarSchemaError {
@@ -36,13 +44,17 @@ impl CedarSchemaError {
         match self {
             CedarSchemaError::NotBuilt => Ok(None),
             CedarSchemaError::DuplicateDeclarations { .. } => Ok(None),
-            CedarSchemaError::TypeNotDefined { names } => {
-                let name = names.first();
+            CedarSchemaError::TypeNotDefined { names, parent } => {
+                let help = undefined_help(alloc, names.first(), *parent)?;
+                Ok(Some(help))
+            }
+            CedarSchemaError::ActionNotDefined { .. } => {
                 let help = format!(in alloc;
-                    "`{name}` has not been declared as a common or entity type"
+                    "any actions appearing as parents need to be declared as actions"
                 )?;
                 Ok(Some(help))
             }
+            CedarSchemaError::CycleInActionHierarchy { .. } => Ok(None),
         }
     }
 
@@ -66,18 +78,34 @@ impl fmt::Display for CedarSchemaError {
             CedarSchemaError::DuplicateDeclarations { name } => {
                 write!(f, "error parsing schema: `{name}` is declared twice")
             }
-            CedarSchemaError::TypeNotDefined { names } => write_undefined(names, f),
+            CedarSchemaError::TypeNotDefined { names, .. } => write_undefined(names, f),
+            CedarSchemaError::ActionNotDefined { uids } => write_undeclared(uids, f),
+            CedarSchemaError::CycleInActionHierarchy { uid } => {
+                write!(f, "cycle in action hierarchy containing `{uid}`")
+            }
         }
     }
 }
 
-/// `type`, or `types` where there are other names.
-fn type_or_types(others: &[Text]) -> &'static str
-    ensures { result.now ≡ type_or_types others.now }
+/// The help on a word that means nothing: a parent could have been declared as an entity type alone.
+fn undefined_help(alloc: Global, name: &Text, parent: bool) -> Mem<String>
+    ensures { IfOk result (λ help. string_bytes help ≡ undefined_help name.now parent) }
+{
+    let help = if parent {
+        format!(in alloc; "`{name}` has not been declared as an entity type")?
+    } else {
+        format!(in alloc; "`{name}` has not been declared as a common or entity type")?
+    };
+    Ok(help)
+}
+
+/// A noun in the singular, or in the plural where there are others.
+fn noun<T>(others: &[T], one: &'static str, many: &'static str) -> &'static str
+    ensures { result.now ≡ noun one.now many.now others.now }
 {
     match others.split_first() {
-        None => "type",
-        Some(_) => "types",
+        None => one,
+        Some(_) => many,
     }
 }
 
@@ -85,18 +113,41 @@ fn type_or_types(others: &[Text]) -> &'static str
 fn write_undefined<W: fmt::Write>(names: &NonEmpty<Text>, f: &mut fmt::Formatter<W>) -> fmt::Result
     ensures { WritesOnOk W.write_str_gives f.old result (undefined_text names.now.head names.now.tail) f.new }
 {
-    let types = type_or_types(names.tail.as_slice());
+    let types = noun(names.tail.as_slice(), "type", "types");
     let first = &names.head;
     write!(f, "failed to resolve {types}: {first}")?;
-    write_others(names.tail.as_slice(), f)
+    write_names(names.tail.as_slice(), f)
+}
+
+/// Writes that these actions aren't declared.
+fn write_undeclared<W: fmt::Write>(
+    uids: &NonEmpty<EntityUID>,
+    f: &mut fmt::Formatter<W>,
+) -> fmt::Result
+    ensures { WritesOnOk W.write_str_gives f.old result (undeclared_text uids.now.head uids.now.tail) f.new }
+{
+    let actions = noun(uids.tail.as_slice(), "action", "actions");
+    let first = &uids.head;
+    write!(f, "undeclared {actions}: {first}")?;
+    write_uids(uids.tail.as_slice(), f)
 }
 
 /// Writes each name after a comma.
-fn write_others<W: fmt::Write>(names: &[Text], f: &mut fmt::Formatter<W>) -> fmt::Result
-    ensures { WritesOnOk W.write_str_gives f.old result (flat_map (λ name. codes ", " ++ name) names.now) f.new }
+fn write_names<W: fmt::Write>(names: &[Text], f: &mut fmt::Formatter<W>) -> fmt::Result
+    ensures { WritesOnOk W.write_str_gives f.old result (others_text names.now) f.new }
 {
     for name in names {
         write!(f, ", {name}")?;
+    }
+    Ok(())
+}
+
+/// Writes each action after a comma.
+fn write_uids<W: fmt::Write>(uids: &[EntityUID], f: &mut fmt::Formatter<W>) -> fmt::Result
+    ensures { WritesOnOk W.write_str_gives f.old result (others_text (map uid_text uids.now)) f.new }
+{
+    for uid in uids {
+        write!(f, ", {uid}")?;
     }
     Ok(())
 }
@@ -111,9 +162,20 @@ impl Dup for CedarSchemaError {
                 let name = name.dup(alloc)?;
                 Ok(CedarSchemaError::DuplicateDeclarations { name })
             }
-            CedarSchemaError::TypeNotDefined { names } => {
+            CedarSchemaError::TypeNotDefined { names, parent } => {
                 let names = names.dup(alloc)?;
-                Ok(CedarSchemaError::TypeNotDefined { names })
+                Ok(CedarSchemaError::TypeNotDefined {
+                    names,
+                    parent: *parent,
+                })
+            }
+            CedarSchemaError::ActionNotDefined { uids } => {
+                let uids = uids.dup(alloc)?;
+                Ok(CedarSchemaError::ActionNotDefined { uids })
+            }
+            CedarSchemaError::CycleInActionHierarchy { uid } => {
+                let uid = uid.dup(alloc)?;
+                Ok(CedarSchemaError::CycleInActionHierarchy { uid })
             }
         }
     }

@@ -2,13 +2,18 @@
 //! Resolved schemas, made from the text of a schema.
 #![tactic(auto)]
 
+mod action;
+mod action_building;
 mod building;
+mod children;
 mod errors;
 mod resolve;
 mod schema;
+mod schema_building;
 mod shapes;
 mod text;
 mod world;
 
+pub use action::ValidatorActionId;
 pub use errors::CedarSchemaError;
-pub use schema::{EntityIter, ValidatorEntityType, ValidatorSchema};
+pub use schema::{ActionIter, EntityIter, ValidatorEntityType, ValidatorSchema};

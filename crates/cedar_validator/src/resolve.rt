@@ -1,6 +1,7 @@
 // SPDX-License-Identifier: Apache-2.0
 ghost use Rattle.std.specs.Prelude.{◌≡◌, ◌∷◌, [], None, Some, false, IfOk, MatchOption};
 ghost use Rattle.std.specs.List.{AllZip};
+ghost use Rattle.std.specs.Option.{is_some};
 ghost use Rattle.cedar_text.specs.Failures.{IfRefused};
 ghost use Rattle.cedar_names.specs.Identifiers.{id_word, unreserved_word};
 ghost use Rattle.cedar_names.specs.Names.{entity_words};
@@ -13,7 +14,7 @@ ghost use Rattle.cedar_validator.specs.Shapes.{attribute_trees, declares};
 
 use crate::shapes::word_of;
 use crate::world::World;
-use cedar_data::{Dup, Failure, Map, Mem, Out, Text};
+use cedar_data::{Dup, Failure, Map, Mem, NoMemory, Out, Text};
 use cedar_names::{EntityType, Id, Name, UnreservedId};
 use cedar_syntax::PlainType;
 use cedar_types::{AttributeType, Attributes, Type};
@@ -63,6 +64,14 @@ fn declared_type(alloc: Global, word: &Id, world: &World) -> Mem<Option<Type>>
         Ok(name) => Ok(entity_of(alloc, name, world)),
         Err(_) => Ok(None),
     }
+}
+
+/// Whether an entity type of this name is declared.
+pub fn is_declared(alloc: Global, word: &Id, world: &World) -> Mem<bool>
+    ensures { IfOk result (λ found. found ≡ declares world.now (id_word word.now)) }
+{
+    let found = declared_type(alloc, word, world)?;
+    Ok(found.is_some())
 }
 
 /// What a type word means, if it means something.
@@ -119,4 +128,21 @@ pub fn resolve_attributes(
         attributes.put(name, attribute)?;
     }
     Ok(Attributes::from_map(attributes))
+}
+
+/// Whether some type word of attributes means nothing.
+pub fn misses_type(alloc: Global, written: &Map<Text, PlainType>, world: &World) -> Mem<bool>
+    ensures { IfOk result (λ misses. misses ≡ is_some (first_undefined (declares world.now) (attribute_trees written.now))) }
+{
+    match resolve_attributes(alloc, written, world) {
+        Ok(attributes) => {
+            drop(attributes);
+            Ok(false)
+        }
+        Err(Failure::Refused(word)) => {
+            drop(word);
+            Ok(true)
+        }
+        Err(Failure::NoMemory) => Err(NoMemory),
+    }
 }

@@ -1,9 +1,10 @@
 // SPDX-License-Identifier: Apache-2.0
 ghost use Rattle.std.specs.Prelude.{◌≡◌};
 
-use cedar_data::{Dup, Map, Mem, Set};
-use cedar_names::EntityType;
-use cedar_types::Attributes;
+use crate::action::ValidatorActionId;
+use cedar_data::{Dup, Map, Mem, Set, SetIter};
+use cedar_names::{EntityType, EntityUID};
+use cedar_types::{Attributes, TcNode};
 use std::alloc::Global;
 use std::collections::btree_map::Values;
 
@@ -20,29 +21,33 @@ pub struct ValidatorEntityType {
 #[derive(Debug, Drop)]
 pub struct ValidatorSchema {
     entity_types: Map<EntityType, ValidatorEntityType>,
+    action_ids: Map<EntityUID, ValidatorActionId>,
 }
 
 /// Entity types, in the order of their names.
 pub type EntityIter<'a> = Values<'a, EntityType, ValidatorEntityType>;
 
+/// Actions, in the order of their names.
+pub type ActionIter<'a> = Values<'a, EntityUID, ValidatorActionId>;
+
 impl ValidatorEntityType {
     ghost use Rattle.cedar_names.specs.declared.name.EntityType.{EntityType};
-    ghost use Rattle.std.specs.Prelude.{◌≡◌, [], IfOk};
+    ghost use Rattle.std.specs.Prelude.{◌≡◌, IfOk};
     ghost use Rattle.cedar_validator.specs.Schemas.{type_name, type_attributes};
 
-    /// The entity type of this name with these attributes, and without descendants.
+    /// The entity type of this name with these descendants and attributes.
     pub(crate) fn plain(
-        alloc: Global,
         name: EntityType,
+        descendants: Set<EntityType>,
         attributes: Attributes,
     ) -> ValidatorEntityType
         ensures name { type_name result ≡ name }
-        ensures descendants { result.descendants ≡ [] }
+        ensures descendants { result.descendants ≡ descendants }
         ensures attributes { type_attributes result ≡ attributes }
     {
         ValidatorEntityType {
             name,
-            descendants: Set::new(alloc),
+            descendants,
             attributes,
         }
     }
@@ -57,6 +62,37 @@ impl ValidatorEntityType {
         ensures { result.now ≡ type_attributes self.now }
     {
         &self.attributes
+    }
+}
+
+impl TcNode<EntityType> for ValidatorEntityType {
+    ghost use Rattle.std.specs.Prelude.{[]};
+    ghost use Rattle.cedar_validator.specs.Schemas.{type_name, type_with};
+    ghost use Rattle.cedar_validator.specs.NodeLaws.{type_whole};
+
+    ghost key = { type_name };
+
+    ghost edges = { λ ty. ty.descendants };
+
+    ghost rest = { type_with [] };
+
+    ghost whole = { type_whole };
+
+    fn get_key(&self) -> &EntityType {
+        &self.name
+    }
+
+    fn add_edge_to(&mut self, k: EntityType) -> Mem<()> {
+        self.descendants.insert(k)?;
+        Ok(())
+    }
+
+    fn has_edge_to(&self, k: &EntityType) -> bool {
+        self.descendants.contains(k)
+    }
+
+    fn out_edges(&self) -> SetIter<'_, EntityType> {
+        self.descendants.iter()
     }
 }
 
@@ -76,13 +112,20 @@ impl Dup for ValidatorEntityType {
 impl ValidatorSchema {
     ghost use Rattle.std.specs.Prelude.{◌≡◌};
     ghost use Rattle.std.specs.Map.{values_of};
-    ghost use Rattle.cedar_validator.specs.Schemas.{types};
+    ghost use Rattle.cedar_validator.specs.Schemas.{types, action_types};
 
-    /// The schema of these entity types.
-    pub(crate) fn from_types(entity_types: Map<EntityType, ValidatorEntityType>) -> ValidatorSchema
-        ensures { types result ≡ entity_types }
+    /// The schema of these entity types and actions.
+    pub(crate) fn from_parts(
+        entity_types: Map<EntityType, ValidatorEntityType>,
+        action_ids: Map<EntityUID, ValidatorActionId>,
+    ) -> ValidatorSchema
+        ensures types { types result ≡ entity_types }
+        ensures actions { action_types result ≡ action_ids }
     {
-        ValidatorSchema { entity_types }
+        ValidatorSchema {
+            entity_types,
+            action_ids,
+        }
     }
 
     /// The entity types, in the order of their names.
@@ -91,11 +134,22 @@ impl ValidatorSchema {
     {
         self.entity_types.as_map().values()
     }
+
+    /// The actions, in the order of their names.
+    pub fn action_ids(&self) -> ActionIter<'_>
+        ensures { result ≡ values_of (action_types self.now) }
+    {
+        self.action_ids.as_map().values()
+    }
 }
 
 impl Dup for ValidatorSchema {
     fn dup(&self, alloc: Global) -> Mem<ValidatorSchema> {
         let entity_types = self.entity_types.dup(alloc)?;
-        Ok(ValidatorSchema { entity_types })
+        let action_ids = self.action_ids.dup(alloc)?;
+        Ok(ValidatorSchema {
+            entity_types,
+            action_ids,
+        })
     }
 }

@@ -1,20 +1,28 @@
 // SPDX-License-Identifier: Apache-2.0
-ghost use Rattle.std.specs.Prelude.{◌≡◌, false, map, IfOk, IfErr};
+ghost use Rattle.std.specs.Prelude.{◌≡◌, ◌++◌, ◌||◌, false, true, map, IfOk, OnOk};
 ghost use Rattle.std.specs.List.{list_any};
 ghost use Rattle.cedar_names.specs.Extensions.{extension_words};
-ghost use Rattle.cedar_names.specs.Identifiers.{id_word};
+ghost use Rattle.cedar_names.specs.Identifiers.{id_word, id_words, unreserved_word};
+ghost use Rattle.cedar_text.specs.Failures.{IfRefused};
 ghost use Rattle.cedar_text.specs.Words.{has_word};
-ghost use Rattle.cedar_syntax.specs.Plain.{type_tree, decl_tree};
-ghost use Rattle.cedar_validator.specs.Declarations.{by_name, word_of, type_words, kept_names, is_unbuilt, shape, shapes};
-ghost use Rattle.cedar_validator.specs.Refusals.{RefusesUnbuilt};
-ghost use Rattle.cedar_validator.specs.Shapes.{attribute_trees, shape_tree};
+ghost use Rattle.cedar_syntax.specs.Plain.{Entities, Actions, type_tree, attribute_tree, decl_tree};
+ghost use Rattle.cedar_validator.specs.Declarations.{by_name, word_of, type_words, kept_names, is_unbuilt, entity_shapes, action_parents, shapes, actions};
+ghost use Rattle.cedar_validator.specs.Shapes.{attribute_trees, kept_shapes};
+ghost use Rattle.cedar_validator.specs.declared.errors.CedarSchemaError.TheVariants.{NotBuilt};
 
 use crate::errors::CedarSchemaError;
-use crate::world::Shape;
-use cedar_data::{Failure, Items, Map, Mem, Out, Text};
+use crate::world::{EntityShape, Parents};
+use cedar_data::{Dup, Failure, Items, Map, Mem, Out, Shared, Text};
 use cedar_names::{Extensions, Id, UnreservedId};
 use cedar_syntax::{PlainDecl, PlainType};
 use std::alloc::Global;
+
+/// The declared entity types and actions, each in the order of the text.
+#[derive(Drop)]
+pub struct DeclaredNames {
+    pub entities: Vec<(UnreservedId, EntityShape)>,
+    pub actions: Vec<(Text, Parents)>,
+}
 
 /// The one word of a type: a set has that of its element.
 pub fn word_of(ty: &PlainType) -> &Id
@@ -37,7 +45,7 @@ pub fn attributes_by_name(
     Map::from_pairs(alloc, written.into_vec())
 }
 
-/// Whether no declaration may have this name yet, whatever the extension types are.
+/// Whether no entity type may have this name yet, whatever the extension types are.
 fn is_kept_name(name: &str) -> bool
     ensures { result ≡ has_word kept_names name.now }
 {
@@ -56,46 +64,98 @@ fn has_extension_type(attributes: &Map<Text, PlainType>, extensions: &Extensions
     false
 }
 
-/// Whether a declaration has a form that isn't built.
-fn is_unbuilt(name: &Id, attributes: &Map<Text, PlainType>, extensions: &Extensions) -> bool
-    ensures { result ≡ is_unbuilt (has_word (extension_words extensions.now)) (id_word name.now, attribute_trees attributes.now) }
+/// The name, where an entity type may have it.
+fn built_name(
+    alloc: Global,
+    name: Id,
+    extensions: &Extensions,
+) -> Out<UnreservedId, CedarSchemaError>
+    ensures ok { IfOk result (λ kept. ((has_word kept_names (id_word name) || has_word (extension_words extensions.now) (id_word name)) ≡ false) × (unreserved_word kept ≡ id_word name)) }
+    ensures refused { IfRefused result (λ e. (e ≡ NotBuilt) × ((has_word kept_names (id_word name) || has_word (extension_words extensions.now) (id_word name)) ≡ true)) }
 {
-    is_kept_name(name.as_ref())
-        || extensions.contains(name.as_ref())
-        || has_extension_type(attributes, extensions)
-}
-
-/// The name of a declaration with its attributes by name. It refuses a form that isn't built.
-fn shape_of(alloc: Global, decl: PlainDecl, extensions: &Extensions) -> Out<Shape, CedarSchemaError>
-    ensures shape { IfOk result (λ kept. shape_tree kept ≡ shape (decl_tree decl)) }
-    ensures built { IfOk result (λ kept. is_unbuilt (has_word (extension_words extensions.now)) (shape (decl_tree decl)) ≡ false) }
-    ensures err { IfErr result (RefusesUnbuilt (is_unbuilt (has_word (extension_words extensions.now)) (shape (decl_tree decl)))) }
-{
-    let PlainDecl { name, attrs } = decl;
-    let attributes = attributes_by_name(alloc, attrs)?;
-    if is_unbuilt(&name, &attributes, extensions) {
+    if is_kept_name(name.as_ref()) || extensions.contains(name.as_ref()) {
         return Err(Failure::Refused(CedarSchemaError::NotBuilt));
     }
     match UnreservedId::try_from_id(alloc, name) {
-        Ok(name) => Ok(Shape { name, attributes }),
+        Ok(name) => Ok(name),
         Err(_) => Err(Failure::Refused(CedarSchemaError::NotBuilt)),
     }
 }
 
-/// The same of each declaration.
-pub fn shapes_of(
+/// Keeps the entity types of a declaration. It refuses a form that isn't built.
+fn keep_entities(
+    alloc: Global,
+    names: Items<Id>,
+    parents: Items<Id>,
+    attrs: Items<(Text, PlainType)>,
+    extensions: &Extensions,
+    kept: &mut Vec<(UnreservedId, EntityShape)>,
+) -> Out<(), CedarSchemaError>
+    ensures kept { OnOk result (kept_shapes kept.new.items ≡ kept_shapes kept.old.items ++ entity_shapes (Entities (id_words names) (id_words parents) (map attribute_tree attrs))) }
+    ensures built { OnOk result (list_any (is_unbuilt (has_word (extension_words extensions.now))) (entity_shapes (Entities (id_words names) (id_words parents) (map attribute_tree attrs))) ≡ false) }
+    ensures refused { IfRefused result (λ e. (e ≡ NotBuilt) × (list_any (is_unbuilt (has_word (extension_words extensions.now))) (entity_shapes (Entities (id_words names) (id_words parents) (map attribute_tree attrs))) ≡ true)) }
+{
+    let attributes = attributes_by_name(alloc, attrs)?;
+    let has_extension = has_extension_type(&attributes, extensions);
+    let parents = Shared::new(alloc, parents)?;
+    let attributes = Shared::new(alloc, attributes)?;
+    for name in names.into_vec() {
+        let name = built_name(alloc, name, extensions)?;
+        if has_extension {
+            return Err(Failure::Refused(CedarSchemaError::NotBuilt));
+        }
+        let parents = parents.dup(alloc)?;
+        let attributes = attributes.dup(alloc)?;
+        let shape = EntityShape {
+            parents,
+            attributes,
+        };
+        kept.push((name, shape))?;
+    }
+    Ok(())
+}
+
+/// Keeps the actions of a declaration.
+fn keep_actions(
+    alloc: Global,
+    names: Items<Text>,
+    parents: Items<Text>,
+    kept: &mut Vec<(Text, Parents)>,
+) -> Mem<()>
+    ensures { OnOk result (kept.new.items ≡ kept.old.items ++ action_parents (Actions names parents)) }
+{
+    let parents = Shared::new(alloc, parents)?;
+    for name in names.into_vec() {
+        let parents = parents.dup(alloc)?;
+        kept.push((name, parents))?;
+    }
+    Ok(())
+}
+
+/// The entity types and actions of declarations. It refuses a form that isn't built.
+pub fn declared(
     alloc: Global,
     decls: Vec<PlainDecl>,
     extensions: &Extensions,
-) -> Out<Vec<Shape>, CedarSchemaError>
-    ensures shapes { IfOk result (λ kept. map shape_tree kept.items ≡ shapes (map decl_tree decls.items)) }
-    ensures built { IfOk result (λ kept. list_any (is_unbuilt (has_word (extension_words extensions.now))) (shapes (map decl_tree decls.items)) ≡ false) }
-    ensures err { IfErr result (RefusesUnbuilt (list_any (is_unbuilt (has_word (extension_words extensions.now))) (shapes (map decl_tree decls.items)))) }
+) -> Out<DeclaredNames, CedarSchemaError>
+    ensures entities { IfOk result (λ d. kept_shapes d.entities.items ≡ shapes (map decl_tree decls.items)) }
+    ensures actions { IfOk result (λ d. d.actions.items ≡ actions (map decl_tree decls.items)) }
+    ensures built { IfOk result (λ d. list_any (is_unbuilt (has_word (extension_words extensions.now))) (shapes (map decl_tree decls.items)) ≡ false) }
+    ensures refused { IfRefused result (λ e. (e ≡ NotBuilt) × (list_any (is_unbuilt (has_word (extension_words extensions.now))) (shapes (map decl_tree decls.items)) ≡ true)) }
 {
-    let mut kept = Vec::new(alloc);
+    let mut entities = Vec::new(alloc);
+    let mut actions = Vec::new(alloc);
     for decl in decls {
-        let shape = shape_of(alloc, decl, extensions)?;
-        kept.push(shape)?;
+        match decl {
+            PlainDecl::Entity {
+                names,
+                parents,
+                attrs,
+            } => keep_entities(alloc, names, parents, attrs, extensions, &mut entities)?,
+            PlainDecl::Action { names, parents } => {
+                keep_actions(alloc, names, parents, &mut actions)?
+            }
+        }
     }
-    Ok(kept)
+    Ok(DeclaredNames { entities, actions })
 }

@@ -5,7 +5,7 @@ ghost use Rattle.cedar_text.specs.Words.{has_word};
 ghost use Rattle.cedar_syntax.specs.Plain.{DeclTree};
 ghost use Rattle.cedar_validator.specs.WellFormed.{IsWellFormed, Answers, AcceptsAs};
 
-use crate::building::resolve;
+use crate::schema_building::resolve;
 use crate::errors::CedarSchemaError;
 use crate::schema::ValidatorSchema;
 use cedar_data::{Failure, Out};

@@ -4,5 +4,5 @@ use Rattle.cedar_validator.proofs.Indexing.{Indexed}
 use Rattle.cedar_validator.proofs.world.index.Given as goal
 
 -- the names so far are distinct and kept, and with what is left they are all
-abbrev pub invariant-loop-shape : goal.invariant-loop-shape
-invariant-loop-shape l = Indexed l.fn.shapes.items l.world (into_iter_items l.shape-iterator)
+abbrev pub invariant-loop-name : goal.invariant-loop-name
+invariant-loop-name g l = Indexed g.K.Ord.cmp g.K.DeclaredName.word l.fn.declared.items l.kept (into_iter_items l.name-iterator)

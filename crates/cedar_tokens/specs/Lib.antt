@@ -1,0 +1,7 @@
+-- SPDX-License-Identifier: Apache-2.0
+pub mod Forms
+pub mod Lexemes
+pub mod Lexing
+pub mod Literals
+pub mod Pieces
+pub mod Standing

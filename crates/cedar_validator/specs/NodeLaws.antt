@@ -1,0 +1,13 @@
+-- SPDX-License-Identifier: Apache-2.0
+-- Entity types and actions as nodes: the name, the descendants and the rest are all that they have.
+use Rattle.std.specs.Prelude.{◌≡◌, []}
+use Rattle.cedar_validator.specs.Schemas.{type_name, type_with, type_attributes, action_name, action_with, action_descendants, action_principals, action_resources, action_context}
+use Rattle.cedar_validator.specs.declared.action.ValidatorActionId.{ValidatorActionId}
+use Rattle.cedar_validator.specs.declared.schema.ValidatorEntityType.{ValidatorEntityType}
+
+pub type_whole : (a b : ValidatorEntityType) → type_name a ≡ type_name b → a.descendants ≡ b.descendants → type_with [] a ≡ type_with [] b → a ≡ b
+type_whole a b named below rest = λ i. record { name = named i; descendants = below i; attributes = (rest i).attributes }
+
+pub action_whole : (a b : ValidatorActionId) → action_name a ≡ action_name b → action_descendants a ≡ action_descendants b → action_with [] a ≡ action_with [] b → a ≡ b
+action_whole a b named below rest =
+    λ i. record { name = named i; principals = (rest i).principals; resources = (rest i).resources; descendants = below i; context = (rest i).context }
