@@ -1,16 +1,14 @@
 -- SPDX-License-Identifier: Apache-2.0
 -- From the closure of nodes to what descends from what.
-use Rattle.std.proofs.Common.{◌≡◌, ◌&&◌, ◌||◌, ◌↔◌, ◌⊎◌, inl, inr, ℕ, Bool, true, false, cond, IsTrue, List, [], ◌∷◌, Some, None, bytes_eq, refl, sym, ap, ◌∙◌, subst}
+use Rattle.std.proofs.Common.{◌≡◌, ◌&&◌, ◌||◌, ◌↔◌, ◌⊎◌, inl, inr, ℕ, Bool, true, false, cond, IsTrue, List, [], ◌∷◌, Some, bytes_eq, refl, sym, ap, ◌∙◌, subst}
 use Rattle.std.specs.BTreeMap.{is_at}
 use Rattle.std.specs.List.{AllZip}
 use Rattle.std.specs.Map.{keys_of}
 use Rattle.std.specs.declared.cmp.Ordering.{Ordering}
-use Rattle.std.specs.declared.cmp.Ordering.TheVariants.{Less, Equal}
 use Rattle.std.specs.Ordering.{is_eq}
 use Rattle.std.proofs.lemmas.Map.Text.{is_eq-slice_cmp}
 use Rattle.cedar_data.specs.Maps.{get}
 use Rattle.cedar_data.specs.Sets.{contains}
-use Rattle.cedar_names.specs.Order.{word_cmp}
 use Rattle.cedar_text.specs.Words.{has_word}
 use Rattle.cedar_types.specs.Chains.{Reaches, one, more}
 use Rattle.cedar_types.specs.Closure.{HasEdge, edges_of, edges_at, IsLeastOnCycle}
@@ -136,8 +134,7 @@ module _ {C V X : Type 0} {IsNamed : C → List ℕ → Type 0} {cmp : C → C �
     pub least_cyclic : (vertex : C) → IsLeastOnCycle cmp edges nodes vertex → (v : List ℕ) × IsNamed vertex v × IsLeastCyclic kin v
     least_cyclic vertex least =
         let below = down vertex vertex least.on_cycle in
-        let same : below.0 ≡ below.2 = one_word names vertex below.0 below.2 below.1 below.3 in
-        (
+        let same : below.0 ≡ below.2 = one_word names vertex below.0 below.2 below.1 below.3 in (
           below.2,
           below.3,
           record {

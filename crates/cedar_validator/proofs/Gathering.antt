@@ -1,6 +1,6 @@
 -- SPDX-License-Identifier: Apache-2.0
 -- The loops that gather children under their parents.
-use Rattle.std.proofs.Common.{◌≡◌, ◌&&◌, ◌||◌, ◌↔◌, ◌⊎◌, inl, inr, ℕ, Bool, true, IsTrue, List, [], ◌∷◌, map, bytes_eq, refl, sym, ap, ◌∙◌, subst}
+use Rattle.std.proofs.Common.{◌≡◌, ◌&&◌, ◌||◌, ◌↔◌, ◌⊎◌, inl, inr, ℕ, true, IsTrue, List, [], ◌∷◌, bytes_eq, sym, ap, ◌∙◌, subst}
 use Rattle.std.specs.BTreeMap.{is_at}
 use Rattle.std.specs.declared.cmp.Ordering.{Ordering}
 use Rattle.cedar_text.specs.Words.{has_word}
@@ -55,8 +55,12 @@ module _ {C : Type 0} (IsNamed : C → List ℕ → Type 0) (cmp : C → C → O
                 inr (word, (tie child c word named).0 (p.1), subst (λ (k : Kin). Member k word name) (sym first) here)
             by (inr e) = inl (e)
         forth name c (inr m) =
-            inr (m.0, m.1, subst (λ (k : Kin). Member k m.0 name) (sym first)
-            ((or_right (bytes_eq word m.0 && has_word parents name) (is_member rest m.0 name) (m.2))))
+            inr (
+              m.0,
+              m.1,
+              subst (λ (k : Kin). Member k m.0 name) (sym first)
+                  ((or_right (bytes_eq word m.0 && has_word parents name) (is_member rest m.0 name) (m.2))),
+            )
 
         back : (name : List ℕ) (c : C) → (IsTrue (is_child cmp old name c) ⊎ Child left name c) → (IsTrue (is_child cmp new name c) ⊎ Child rest name c)
         back name c (inl t) =

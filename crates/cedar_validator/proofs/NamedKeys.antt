@@ -8,8 +8,6 @@ use Rattle.std.specs.Ordering.{is_eq, ordering_then}
 use Rattle.cedar_names.specs.EntityUids.{eid_text, eid_of, entity_type_of}
 use Rattle.cedar_names.specs.Names.{entity_words, entity_cmp}
 use Rattle.cedar_names.specs.Order.{word_cmp, words_cmp}
-use Rattle.cedar_names.specs.declared.entity_uid.EntityUID.{EntityUID}
-use Rattle.cedar_names.specs.declared.name.EntityType.{EntityType}
 use Rattle.cedar_validator.specs.Denotes.{IsTypeNamed, IsActionNamed}
 use Rattle.cedar_validator.specs.Schemas.{uid_cmp}
 use Rattle.std.proofs.lemmas.Map.Text.{is_eq-slice_cmp}

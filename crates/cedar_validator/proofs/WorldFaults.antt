@@ -1,6 +1,6 @@
 -- SPDX-License-Identifier: Apache-2.0
 -- From what is wrong with a world to what is wrong with declarations.
-use Rattle.std.proofs.Common.{◌≡◌, ◌⊎◌, inl, inr, ℕ, Bool, true, false, ◌&&◌, ◌||◌, not, List, [], ◌∷◌, map, fold, Result, Ok, Err, IfOk, IsTrue, refl, sym, ap, ◌∙◌, subst}
+use Rattle.std.proofs.Common.{◌≡◌, inl, inr, ℕ, Bool, true, false, ◌||◌, List, [], ◌∷◌, map, Result, Ok, Err, IfOk, IsTrue, refl, sym, ap, ◌∙◌, subst}
 use Rattle.std.specs.List.{AllZip, list_any}
 use Rattle.std.specs.Map.{keys_of}
 use Rattle.cedar_data.specs.Maps.{map_of}
@@ -13,17 +13,16 @@ use Rattle.cedar_text.specs.Failures.{IfRefused}
 use Rattle.cedar_text.specs.Lists.{elements}
 use Rattle.cedar_text.specs.Words.{has_word}
 use Rattle.cedar_syntax.specs.Plain.{DeclTree}
-use Rattle.cedar_validator.specs.Building.{MissesTypes, MissesActions, IsOnCycle}
-use Rattle.cedar_validator.specs.Declarations.{Shaped, declared_types, declared_actions, shapes, actions, kin_of, world, action_world, is_unbuilt, are_distinct, AreDistinct, IsFirstRepeat, missing, missing_of, misses_parent, missing_actions, missing_parents}
+use Rattle.cedar_validator.specs.Building.{IsOnCycle}
+use Rattle.cedar_validator.specs.Declarations.{Shaped, declared_types, declared_actions, shapes, actions, kin_of, world, is_unbuilt, are_distinct, IsFirstRepeat, missing, missing_of, misses_parent, missing_actions, missing_parents}
 use Rattle.cedar_validator.specs.Denotes.{IsActionNamed, DenotesEntry, DenotesActionEntry, Denotes}
 use Rattle.cedar_validator.specs.Descents.{Kin, Member, Descends}
 use Rattle.cedar_validator.specs.Schemas.{types, action_types}
 use Rattle.cedar_validator.specs.Shapes.{Kept, shape_of, kept_shapes, declares}
 use Rattle.cedar_validator.specs.WellFormed.{IsAcyclic, IsLeastCyclic, Fault}
-use Rattle.cedar_validator.specs.Worlds.{unreserved_cmp, Indexes, RepeatsNames, IsWorld, Refuses, DenotesWorld, IsCyclic, WorldFault, Resolves}
+use Rattle.cedar_validator.specs.Worlds.{unreserved_cmp, Indexes, RepeatsNames, IsWorld, Refuses, DenotesWorld, WorldFault, Resolves}
 use Rattle.cedar_validator.specs.declared.action.ValidatorActionId.{ValidatorActionId}
 use Rattle.cedar_validator.specs.declared.errors.CedarSchemaError.{CedarSchemaError}
-use Rattle.cedar_validator.specs.declared.errors.CedarSchemaError.TheVariants.{NotBuilt, DuplicateDeclarations, TypeNotDefined, ActionNotDefined, CycleInActionHierarchy}
 use Rattle.cedar_validator.specs.declared.schema_building.Worlds.{Worlds}
 use Rattle.cedar_validator.specs.declared.schema.ValidatorSchema.{ValidatorSchema}
 use Rattle.cedar_validator.proofs.Closed.{actions_cyclic}
@@ -59,8 +58,11 @@ module _ (is_extension : List ℕ → Bool) (ds : List DeclTree) (entities : Kep
   pub repeated : (e : CedarSchemaError) → RepeatsNames entities parents e → Refuses is_extension ds e
   repeated e (inl r) = inr (built, subst (λ (x : CedarSchemaError). Fault ds x) (sym r.is) (inl (subst (λ (ws : List (List ℕ)). IsFirstRepeat ws r.name) type_words r.first)))
   repeated e (inr r) =
-      inr (built, subst (λ (x : CedarSchemaError). Fault ds x) (sym r.1.is)
-      (inr (subst (λ (ws : List (List ℕ)). IsTrue (are_distinct ws)) type_words r.0, subst (λ (ws : List (List ℕ)). IsFirstRepeat ws r.1.name) action_words r.1.first)))
+      inr (
+        built,
+        subst (λ (x : CedarSchemaError). Fault ds x) (sym r.1.is)
+            (inr (subst (λ (ws : List (List ℕ)). IsTrue (are_distinct ws)) type_words r.0, subst (λ (ws : List (List ℕ)). IsFirstRepeat ws r.1.name) action_words r.1.first)),
+      )
 
   pub is_world : (kept : Kept) (kin : Kin) → Indexes unreserved_cmp unreserved_word entities kept → Indexes word_cmp (λ w. w) parents kin → IsWorld is_extension ds kept kin
   is_world kept kin indexed other = record {

@@ -1,7 +1,7 @@
 -- SPDX-License-Identifier: Apache-2.0
 -- Entity types and actions as nodes: the name, the descendants and the rest are all that they have.
 use Rattle.std.specs.Prelude.{◌≡◌, []}
-use Rattle.cedar_validator.specs.Schemas.{type_name, type_with, type_attributes, action_name, action_with, action_descendants, action_principals, action_resources, action_context}
+use Rattle.cedar_validator.specs.Schemas.{type_name, type_with, action_name, action_with, action_descendants}
 use Rattle.cedar_validator.specs.declared.action.ValidatorActionId.{ValidatorActionId}
 use Rattle.cedar_validator.specs.declared.schema.ValidatorEntityType.{ValidatorEntityType}
 

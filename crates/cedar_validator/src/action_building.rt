@@ -46,11 +46,7 @@ fn action_named(alloc: Global, ty: &EntityType, word: &Text) -> Mem<EntityUID>
 
 /// The actions of these words.
 #[tactic(auto, using(crate::proofs::Naming::naming))]
-fn actions_named(
-    alloc: Global,
-    ty: &EntityType,
-    words: &NonEmpty<Text>,
-) -> Mem<NonEmpty<EntityUID>>
+fn actions_named(alloc: Global, ty: &EntityType, words: &NonEmpty<Text>) -> Mem<NonEmpty<EntityUID>>
     requires { IsTypeNamed ty.now (codes "Action") }
     ensures { IfOk result (λ uids. AllZip IsActionNamed (elements uids) (elements words.now)) }
 {
@@ -64,11 +60,7 @@ fn actions_named(
 }
 
 /// The actions that have each name as a parent.
-fn action_children(
-    alloc: Global,
-    ty: &EntityType,
-    world: &ActionWorld,
-) -> Mem<Children<EntityUID>>
+fn action_children(alloc: Global, ty: &EntityType, world: &ActionWorld) -> Mem<Children<EntityUID>>
     requires { IsTypeNamed ty.now (codes "Action") }
     ensures { IfOk result (λ children. Gathers IsActionNamed uid_cmp world.now children.entries) }
 {

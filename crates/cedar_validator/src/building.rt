@@ -120,16 +120,21 @@ pub fn resolve_types(alloc: Global, world: &World) -> Out<Types, CedarSchemaErro
     let mut types = Map::new(alloc);
     let mut missing = Vec::new(alloc);
     for (name, shape) in world.iter() {
-        add_type(alloc, name, shape, world, &children, &mut types, &mut missing)?;
+        add_type(
+            alloc,
+            name,
+            shape,
+            world,
+            &children,
+            &mut types,
+            &mut missing,
+        )?;
     }
     match NonEmpty::from_vec(missing) {
         None => Ok(types),
         Some(names) => {
             let parent = misses_parent(alloc, world)?;
-            Err(Failure::Refused(CedarSchemaError::TypeNotDefined {
-                names,
-                parent,
-            }))
+            Err(Failure::Refused(CedarSchemaError::TypeNotDefined { names, parent }))
         }
     }
 }

@@ -21,10 +21,7 @@ pub enum CedarSchemaError {
     DuplicateDeclarations { name: Text },
     /// For each entity type in order, all its parents that aren't declared, or where there are none the first type
     /// word of its shape that means nothing. `parent` tells whether the first of these words is a parent.
-    TypeNotDefined {
-        names: NonEmpty<Text>,
-        parent: bool,
-    },
+    TypeNotDefined { names: NonEmpty<Text>, parent: bool },
     /// For each action in order, all its parents that aren't declared.
     ActionNotDefined { uids: NonEmpty<EntityUID> },
     /// This action descends from itself, and no lesser one does.

@@ -5,9 +5,9 @@ ghost use Rattle.cedar_text.specs.Words.{has_word};
 ghost use Rattle.cedar_syntax.specs.Plain.{DeclTree};
 ghost use Rattle.cedar_validator.specs.WellFormed.{IsWellFormed, Answers, AcceptsAs};
 
-use crate::schema_building::resolve;
 use crate::errors::CedarSchemaError;
 use crate::schema::ValidatorSchema;
+use crate::schema_building::resolve;
 use cedar_data::{Failure, Out};
 use cedar_names::Extensions;
 use cedar_syntax::read_plain;

@@ -1,6 +1,5 @@
 -- SPDX-License-Identifier: Apache-2.0
 use Rattle.std.specs.Slice.Iter.{iter_rest}
-use Rattle.cedar_validator.specs.Denotes.{IsActionNamed}
 use Rattle.cedar_validator.proofs.Naming.{Named}
 use Rattle.cedar_validator.proofs.action_building.actions_named.Given as goal
 

@@ -15,7 +15,7 @@ same_vertex a b e = cc
 pub returns-in-Err-Refused-HasCycle-clause-refused : goal.returns-in-Err-Refused-HasCycle-clause-refused
 returns-in-Err-Refused-HasCycle-clause-refused c =
     let told = refused_at (λ (error : TcError EntityUID). IsTrue true × ((vertex : EntityUID) × (error ≡ HasCycle vertex) × IsLeastOnCycle uid_cmp action_descendants c.into_map.result.entries vertex))
-        c.compute_tc.result c.in-Err-Refused-HasCycle.field-0 c.in-Err-Refused-HasCycle.field-0-0 c.in-Err-Refused-HasCycle.is c.in-Err-Refused-HasCycle.field-0-is c.compute_tc.ensures.refused
+    c.compute_tc.result c.in-Err-Refused-HasCycle.field-0 c.in-Err-Refused-HasCycle.field-0-0 c.in-Err-Refused-HasCycle.is c.in-Err-Refused-HasCycle.field-0-is c.compute_tc.ensures.refused
     in
     let same = same_vertex told.1.0 c.in-Err-Refused-HasCycle.vertex (sym told.1.1 ∙ c.in-Err-Refused-HasCycle.field-0-0-is) in
     record {

@@ -24,7 +24,7 @@ returns-in-Err-Refused c =
     let kept = c.in_ok-keep_undeclared.ensures.kept ∙ ap (λ (ps : List Id). c.args.missing.now.items ++ undeclared (declares c.args.world.now) (id_words ps)) c.get.ensures in
     let found = ap (λ (ps : List Id). list_any (λ parent. not (declares c.args.world.now parent)) (id_words ps)) (sym c.get.ensures) ∙ sym c.in_ok-keep_undeclared.ensures.found ∙ c.if-branch.false in
     let undefined = ap (λ (as' : List (List ℕ × PlainType)). first_undefined (declares c.args.world.now) (attribute_trees as')) (sym c.get-2.ensures)
-        ∙ refused_at (λ word. first_undefined (declares c.args.world.now) (attribute_trees c.get-2.result.now) ≡ Some word) c.resolve_attributes.result c.in-Err-Refused.field-0 c.in-Err-Refused.word c.in-Err-Refused.is c.in-Err-Refused.field-0-is c.resolve_attributes.ensures.refused
+    ∙ refused_at (λ word. first_undefined (declares c.args.world.now) (attribute_trees c.get-2.result.now) ≡ Some word) c.resolve_attributes.result c.in-Err-Refused.field-0 c.in-Err-Refused.word c.in-Err-Refused.is c.in-Err-Refused.field-0-is c.resolve_attributes.ensures.refused
     in
     adds_word (declares c.args.world.now) (kin_of (kept_shapes c.args.world.now)) c.args.name.now c.args.shape.now c.args.types.now c.args.missing.now.items c.keep_undeclared.new.missing.items c.push.new.self.items c.in-Err-Refused.word
     kept found undefined (c.in_ok-push-in-Err-Refused.ensures.items ∙ ap (λ (w : List ℕ). c.keep_undeclared.new.missing.items ++ w ∷ []) c.in-Err-Refused.word-is)

@@ -1,11 +1,6 @@
 -- SPDX-License-Identifier: Apache-2.0
-use Rattle.std.proofs.Common.{map}
-use Rattle.std.specs.List.{AllZip}
-use Rattle.std.specs.Cmp.Lexicographic.{nat_list_cmp_total}
 use Rattle.cedar_names.specs.Identifiers.{unreserved_word}
 use Rattle.cedar_names.specs.Names.{entity_cmp}
-use Rattle.cedar_names.specs.declared.id.UnreservedId.{UnreservedId}
-use Rattle.cedar_names.specs.declared.name.EntityType.{EntityType}
 use Rattle.cedar_validator.specs.Declarations.{kin_of, missing_in}
 use Rattle.cedar_validator.specs.Denotes.{DenotesEntry}
 use Rattle.cedar_validator.specs.Descents.{Member}

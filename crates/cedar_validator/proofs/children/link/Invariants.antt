@@ -10,4 +10,4 @@ use Rattle.cedar_validator.proofs.children.link.Given as goal
 abbrev pub invariant-loop-parent : goal.invariant-loop-parent
 invariant-loop-parent g l =
     (name : List ℕ) (c : g.row.C.Denot) → ((has_word (map g.P.DeclaredName.word (iter_rest l.parent-iterator)) name && is_at (g.C.Ord.cmp l.child) c) || is_child g.C.Ord.cmp l.children.entries name c)
-        ≡ ((has_word (map g.P.DeclaredName.word l.parents) name && is_at (g.C.Ord.cmp l.child) c) || is_child g.C.Ord.cmp l.initial.children.entries name c)
+    ≡ ((has_word (map g.P.DeclaredName.word l.parents) name && is_at (g.C.Ord.cmp l.child) c) || is_child g.C.Ord.cmp l.initial.children.entries name c)
