@@ -44,6 +44,21 @@ fn each_read(rt: HostRuntime) -> Result<(), Fail> {
 }
 
 #[test]
+fn ninth_write(rt: HostRuntime) -> Result<(), Fail> {
+    let alloc = rt.alloc();
+    let fail_at = FailAt {
+        source: Vec::new(alloc),
+        out: vec![in alloc; 9u64]?,
+        err: Vec::new(alloc),
+    };
+    let text = b"entity A in B; entity B in A;";
+    let outcome = run_failing(alloc, "resolve", text, 1, fail_at)?;
+    assert_eq!(rt; outcome.status, Status::WriteFault);
+    assert_eq!(rt; outcome.out.as_slice(), b"entity A".as_slice());
+    Ok(())
+}
+
+#[test]
 fn each_write(rt: HostRuntime) -> Result<(), Fail> {
     let alloc = rt.alloc();
     let whole = run_failing(alloc, "resolve", TEXT, 1, FailAt::never(alloc))?;

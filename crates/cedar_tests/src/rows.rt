@@ -1,6 +1,8 @@
 // SPDX-License-Identifier: Apache-2.0
 use crate::outcome::run_on;
+use cedar_data::Mem;
 use cedar_schema_tool::Status;
+use std::alloc::Global;
 use std::test::Fail;
 
 #[test]
@@ -26,14 +28,64 @@ fn accepted(rt: HostRuntime) -> Result<(), Fail> {
         ),
     ];
     for (input, listing) in rows {
-        let outcome = run_on(rt.alloc(), "resolve", input.as_bytes())?;
-        assert_eq!(rt; outcome.status, Status::Done, "status of {input:?}");
-        assert_eq!(rt;
-            outcome.out.as_slice(),
-            listing.as_bytes(),
+        assert!(rt;
+            is_listed(rt.alloc(), input, listing)?,
             "listing of {input:?}"
         );
-        assert_eq!(rt; outcome.err.len(), 0, "errors of {input:?}");
+    }
+    Ok(())
+}
+
+/// Whether a text is accepted with this listing, and nothing else is printed.
+fn is_listed(alloc: Global, input: &str, listing: &str) -> Mem<bool> {
+    let outcome = run_on(alloc, "resolve", input.as_bytes())?;
+    let is_done = outcome.status == Status::Done && outcome.err.is_empty();
+    Ok(is_done && outcome.out.as_slice() == listing.as_bytes())
+}
+
+#[test]
+fn memberships(rt: HostRuntime) -> Result<(), Fail> {
+    let rows = [
+        (
+            "entity A in B; entity B in A;",
+            "entity A descendants [A, B] attributes {}\nentity B descendants [A, B] attributes {}\n",
+        ),
+        (
+            "entity C in [B, B]; entity B in A; entity A in [];",
+            "entity A descendants [B, C] attributes {}\nentity B descendants [C] attributes {}\nentity C descendants [] attributes {}\n",
+        ),
+        (
+            "entity B, A in C { n: Long }; entity C;",
+            "entity A descendants [] attributes {\"n\": Long}\nentity B descendants [] attributes {\"n\": Long}\nentity C descendants [A, B] attributes {}\n",
+        ),
+        ("entity A in A;", "entity A descendants [A] attributes {}\n"),
+    ];
+    for (input, listing) in rows {
+        assert!(rt;
+            is_listed(rt.alloc(), input, listing)?,
+            "listing of {input:?}"
+        );
+    }
+    Ok(())
+}
+
+#[test]
+fn actions(rt: HostRuntime) -> Result<(), Fail> {
+    let rows = [
+        (
+            "action in, b in c; action c in [d]; entity E; action d;",
+            "entity E descendants [] attributes {}\naction Action::\"b\" descendants [] principals [] resources [] context {}\naction Action::\"c\" descendants [Action::\"b\", Action::\"in\"] principals [] resources [] context {}\naction Action::\"d\" descendants [Action::\"b\", Action::\"c\", Action::\"in\"] principals [] resources [] context {}\naction Action::\"in\" descendants [] principals [] resources [] context {}\n",
+        ),
+        (
+            "entity action; action action;",
+            "entity action descendants [] attributes {}\naction Action::\"action\" descendants [] principals [] resources [] context {}\n",
+        ),
+    ];
+    for (input, listing) in rows {
+        assert!(rt;
+            is_listed(rt.alloc(), input, listing)?,
+            "listing of {input:?}"
+        );
     }
     Ok(())
 }
@@ -71,14 +123,65 @@ fn refused(rt: HostRuntime) -> Result<(), Fail> {
         ),
     ];
     for (input, text) in rows {
-        let outcome = run_on(rt.alloc(), "resolve", input.as_bytes())?;
-        assert_eq!(rt; outcome.status, Status::Refused, "status of {input:?}");
-        assert_eq!(rt;
-            outcome.err.as_slice(),
-            text.as_bytes(),
+        assert!(rt;
+            is_refused(rt.alloc(), input, text)?,
             "refusal of {input:?}"
         );
-        assert_eq!(rt; outcome.out.len(), 0, "output of {input:?}");
+    }
+    Ok(())
+}
+
+/// Whether a text is refused with this text, and nothing else is printed.
+fn is_refused(alloc: Global, input: &str, text: &str) -> Mem<bool> {
+    let outcome = run_on(alloc, "resolve", input.as_bytes())?;
+    let is_refused = outcome.status == Status::Refused && outcome.out.is_empty();
+    Ok(is_refused && outcome.err.as_slice() == text.as_bytes())
+}
+
+#[test]
+fn refused_memberships(rt: HostRuntime) -> Result<(), Fail> {
+    let rows = [
+        (
+            "entity A in [X, Y] { a: Z }; action b in q;",
+            "error: failed to resolve types: X, Y\nhelp: `X` has not been declared as an entity type\n",
+        ),
+        (
+            "entity A { a: Z }; entity B in [Long, A, X, X];",
+            "error: failed to resolve types: Z, Long, X, X\nhelp: `Z` has not been declared as a common or entity type\n",
+        ),
+        (
+            "action a in z;",
+            "error: undeclared action: Action::\"z\"\nhelp: any actions appearing as parents need to be declared as actions\n",
+        ),
+        (
+            "action b in [z, b, y]; action a in [x, b]; action b1 in b1;",
+            "error: undeclared actions: Action::\"x\", Action::\"z\", Action::\"y\"\nhelp: any actions appearing as parents need to be declared as actions\n",
+        ),
+        (
+            "action a in b; action b in a;",
+            "error: cycle in action hierarchy containing `Action::\"a\"`\n",
+        ),
+        (
+            "action a in c; action c in d; action d in c; action z in z;",
+            "error: cycle in action hierarchy containing `Action::\"c\"`\n",
+        ),
+        (
+            "action a; action b; action b; action a; entity E; entity E;",
+            "error: error parsing schema: `E` is declared twice\n",
+        ),
+        (
+            "action a, b, a; entity E in X;",
+            "error: error parsing schema: `a` is declared twice\n",
+        ),
+        ("entity A in in;", "error: not built yet\n"),
+        ("entity A in [B,]; entity B;", "error: not built yet\n"),
+        ("action a { };", "error: not built yet\n"),
+    ];
+    for (input, text) in rows {
+        assert!(rt;
+            is_refused(rt.alloc(), input, text)?,
+            "refusal of {input:?}"
+        );
     }
     Ok(())
 }

@@ -1,7 +1,7 @@
 // SPDX-License-Identifier: Apache-2.0
 use cedar_names::{Dup, EntityType, Extensions, Mem, Name, Text, UnreservedId};
 use cedar_syntax::read_plain;
-use cedar_types::{AttributeType, Attributes, OpenTag, Type, TypeView};
+use cedar_types::{AttributeType, Attributes, OpenTag, TcNode, Type, TypeView};
 use cedar_validator::{CedarSchemaError, ValidatorSchema};
 use std::alloc::Global;
 use std::test::Fail;
@@ -84,6 +84,61 @@ fn schemas(rt: HostRuntime) -> Result<(), Fail> {
     for ty in copy.entity_types() {
         assert!(rt; ty.descendants.is_empty());
         assert_eq!(rt; ty.dup(alloc)?.attributes(), ty.attributes());
+    }
+    Ok(())
+}
+
+/// The schema of an action in a group, and of an entity type in another.
+fn grouped(alloc: Global) -> Result<ValidatorSchema, Fail> {
+    let extensions = Extensions::none(alloc);
+    let text = "action a in b; action b; entity E in F; entity F;";
+    Ok(
+        ValidatorSchema::from_cedarschema_str(alloc, text, &extensions)
+            .ok()
+            .ok_or("refused")?,
+    )
+}
+
+#[test]
+fn actions(rt: HostRuntime) -> Result<(), Fail> {
+    let alloc = rt.alloc();
+    let schema = grouped(alloc)?;
+    assert_eq!(rt; schema.action_ids().count(), 2);
+    for action in schema.action_ids() {
+        let copy = action.dup(alloc)?;
+        assert_eq!(rt; copy.name(), action.name());
+        assert_eq!(rt; action.get_key(), action.name());
+        assert_eq!(rt; copy.principals().count(), 0);
+        assert_eq!(rt; copy.resources().count(), 0);
+        assert!(rt;
+            matches!(
+                copy.context().view(),
+                TypeView::Record(_, OpenTag::ClosedAttributes)
+            )
+        );
+        let below = if action.name().eid().as_str() == "b" {
+            1usize
+        } else {
+            0
+        };
+        assert_eq!(rt; copy.descendants().count(), below);
+        assert_eq!(rt; copy.out_edges().count(), below);
+    }
+    Ok(())
+}
+
+#[test]
+fn nodes(rt: HostRuntime) -> Result<(), Fail> {
+    let alloc = rt.alloc();
+    let schema = grouped(alloc)?;
+    for ty in schema.entity_types() {
+        let mut node = ty.dup(alloc)?;
+        assert_eq!(rt; node.get_key(), ty.name());
+        let before = node.out_edges().count();
+        node.add_edge_to(entity(alloc, "G")?)?;
+        assert!(rt; node.has_edge_to(&entity(alloc, "G")?));
+        assert!(rt; !node.has_edge_to(&entity(alloc, "H")?));
+        assert_eq!(rt; node.out_edges().count(), before + 1);
     }
     Ok(())
 }
