@@ -155,7 +155,11 @@ fn refused_memberships(rt: HostRuntime) -> Result<(), Fail> {
         ),
         (
             "action b in [z, b, y]; action a in [x, b]; action b1 in b1;",
-            "error: undeclared actions: Action::\"x\", Action::\"z\", Action::\"y\"\nhelp: any actions appearing as parents need to be declared as actions\n",
+            "error: undeclared actions: Action::\"x\", Action::\"z\", and Action::\"y\"\nhelp: any actions appearing as parents need to be declared as actions\n",
+        ),
+        (
+            "action a in [z, a, y];",
+            "error: undeclared actions: Action::\"z\" and Action::\"y\"\nhelp: any actions appearing as parents need to be declared as actions\n",
         ),
         (
             "action a in b; action b in a;",

@@ -8,6 +8,7 @@ pub mod Closing
 pub mod FromText
 pub mod Gathering
 pub mod Indexing
+pub mod JoinedTexts
 pub mod Meanings
 pub mod NamedKeys
 pub mod Naming

@@ -18,9 +18,21 @@ others_text others = flat_map (λ other. codes ", " ++ other) others
 abbrev pub undefined_text : List ℕ → List (List ℕ) → List ℕ
 undefined_text word words = codes "failed to resolve " ++ noun (codes "type") (codes "types") words ++ codes ": " ++ word ++ others_text words
 
--- the actions, joined by commas
+-- texts, each after a comma, the last also after `and`
+abbrev pub and_text : List (List ℕ) → List ℕ
+and_text [] = []
+and_text (text ∷ []) = codes ", and " ++ text
+and_text (text ∷ other ∷ others) = codes ", " ++ text ++ and_text (other ∷ others)
+
+-- what follows the first of some texts: nothing, `and` and the second, or all others after commas with `and` before the last
+abbrev pub behind_first : List (List ℕ) → List ℕ
+behind_first [] = []
+behind_first (second ∷ []) = codes " and " ++ second
+behind_first (second ∷ third ∷ others) = and_text (second ∷ third ∷ others)
+
+-- the actions, joined
 abbrev pub undeclared_text : EntityUID → List EntityUID → List ℕ
-undeclared_text uid uids = codes "undeclared " ++ noun (codes "action") (codes "actions") uids ++ codes ": " ++ uid_text uid ++ others_text (map uid_text uids)
+undeclared_text uid uids = codes "undeclared " ++ noun (codes "action") (codes "actions") uids ++ codes ": " ++ uid_text uid ++ behind_first (map uid_text uids)
 
 -- the help on a word that means nothing: a parent could have been declared as an entity type alone
 abbrev pub undefined_help : List ℕ → Bool → List ℕ

@@ -1,10 +1,10 @@
 // SPDX-License-Identifier: Apache-2.0
-ghost use Rattle.std.specs.Prelude.{◌≡◌, [], IfOk, map};
+ghost use Rattle.std.specs.Prelude.{◌≡◌, ◌++◌, [], codes, IfOk, map};
 ghost use Rattle.std.specs.Fmt.{WritesOnOk};
 ghost use Rattle.std.specs.Option.{option_map};
 ghost use Rattle.std.specs.String.{string_bytes};
 ghost use Rattle.cedar_names.specs.EntityUids.{uid_text};
-ghost use Rattle.cedar_validator.specs.UndefinedWords.{noun, others_text, undefined_text, undeclared_text, undefined_help};
+ghost use Rattle.cedar_validator.specs.UndefinedWords.{noun, others_text, behind_first, undefined_text, undeclared_text, undefined_help};
 
 use cedar_data::{Dup, Mem, Text};
 use cedar_names::{EntityUID, NonEmpty, Span};
@@ -126,7 +126,35 @@ fn write_undeclared<W: fmt::Write>(
     let actions = noun(uids.tail.as_slice(), "action", "actions");
     let first = &uids.head;
     write!(f, "undeclared {actions}: {first}")?;
-    write_uids(uids.tail.as_slice(), f)
+    write_behind_first(uids.tail.as_slice(), f)
+}
+
+/// Writes what follows the first of some actions: the second after `and`, or all others after commas, with `and` before
+/// the last.
+fn write_behind_first<W: fmt::Write>(others: &[EntityUID], f: &mut fmt::Formatter<W>) -> fmt::Result
+    ensures { WritesOnOk W.write_str_gives f.old result (behind_first (map uid_text others.now)) f.new }
+{
+    match others.split_last() {
+        None => Ok(()),
+        Some((last, front)) => {
+            if front.is_empty() {
+                return write!(f, " and {last}");
+            }
+            write_with_last(front, last, f)
+        }
+    }
+}
+
+/// Writes actions each after a comma, and a last one after a comma and `and`.
+fn write_with_last<W: fmt::Write>(
+    front: &[EntityUID],
+    last: &EntityUID,
+    f: &mut fmt::Formatter<W>,
+) -> fmt::Result
+    ensures { WritesOnOk W.write_str_gives f.old result (others_text (map uid_text front.now) ++ codes ", and " ++ uid_text last.now) f.new }
+{
+    write_uids(front, f)?;
+    write!(f, ", and {last}")
 }
 
 /// Writes each name after a comma.
