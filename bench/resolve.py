@@ -1,12 +1,13 @@
 #!/usr/bin/env python3
 # SPDX-License-Identifier: Apache-2.0
-"""Times `resolve` on plain entity declarations, and prints a table.
+"""Times `resolve` on entity declarations, and prints two tables.
 
     bench/resolve.py [PROGRAM]
 
 PROGRAM is a built program; without it, the one that the script `joistginger` at
-the top builds. Each row is the best of three runs: seconds, peak memory, and
-microseconds per declaration.
+the top builds. Each row is the best of three runs. The first table has declarations
+of five attributes, by their number; the second has memberships, by the number of
+pairs of a type and one that descends from it, which the listing writes.
 """
 import os
 import subprocess
@@ -50,12 +51,48 @@ def run(program, path):
     return end.elapsed - start.elapsed, usage.ru_utime + usage.ru_stime, usage.ru_maxrss / 1024
 
 
-def main():
-    program = sys.argv[1] if len(sys.argv) > 1 else None
-    if program is None:
-        built = subprocess.run([os.path.join(TOP, "joistginger"), "--where"],
-                               stdout=subprocess.PIPE, check=True)
-        program = built.stdout.decode().strip()
+def members(pairs):
+    """Entity types, each in the one that it is paired with, or in none."""
+    return "".join(f"entity {name} in {parent};\n" if parent else f"entity {name};\n"
+                   for name, parent in pairs)
+
+
+def chain(n):
+    return members([(f"E{i}", f"E{i - 1}" if i else None) for i in range(n)])
+
+
+def tree(n):
+    return members([(f"E{i}", f"E{i // 2}" if i > 1 else None) for i in range(1, n + 1)])
+
+
+def groups(n, size):
+    return members([(f"G{i}", None) for i in range(n)]
+                   + [(f"M{i}x{k}", f"G{i}") for i in range(n) for k in range(size)])
+
+
+def cycle(n):
+    return members([(f"E{i}", f"E{(i + 1) % n}") for i in range(n)])
+
+
+def closure_size(program, path):
+    """How many descendants the listing has."""
+    with open(path, "rb") as source:
+        listing = subprocess.run([program, "resolve"], stdin=source, stdout=subprocess.PIPE,
+                                 check=True).stdout
+    size = 0
+    for line in listing.splitlines():
+        inside = line[line.index(b"[") + 1:line.index(b"]")]
+        size += inside.count(b",") + 1 if inside else 0
+    return size
+
+
+def best_of_three(program, path):
+    """The least processor seconds and the greatest peak memory of three runs."""
+    rows = [run(program, path) for _ in range(3)]
+    return min(row[1] for row in rows), max(row[2] for row in rows)
+
+
+def print_declarations(program):
     cases = [(n, schema(n)) for n in (1000, 10000)]
     cases.append(full_schema())
     print("| declarations | bytes | seconds (processor) | peak MB | us per declaration |")
@@ -64,10 +101,36 @@ def main():
         with tempfile.NamedTemporaryFile(suffix=".cedarschema") as source:
             source.write(text.encode())
             source.flush()
-            rows = [run(program, source.name) for _ in range(3)]
-        seconds = min(row[1] for row in rows)
-        memory = max(row[2] for row in rows)
+            seconds, memory = best_of_three(program, source.name)
         print(f"| {n} | {len(text)} | {seconds:.3f} | {memory:.0f} | {1e6 * seconds / n:.2f} |")
+
+
+def print_memberships(program):
+    cases = [("500 groups of 40 members", groups(500, 40)),
+             ("a binary tree of 20,000", tree(20000)),
+             ("a chain of 2,000", chain(2000)),
+             ("a cycle of 2,000", cycle(2000))]
+    print("| entity types | pairs of the closure | seconds (processor) | peak MB | us per type and pair |")
+    print("|---|---|---|---|---|")
+    for name, text in cases:
+        with tempfile.NamedTemporaryFile(suffix=".cedarschema") as source:
+            source.write(text.encode())
+            source.flush()
+            size = closure_size(program, source.name)
+            seconds, memory = best_of_three(program, source.name)
+        each = 1e6 * seconds / (size + text.count("\n"))
+        print(f"| {name} | {size} | {seconds:.3f} | {memory:.0f} | {each:.2f} |")
+
+
+def main():
+    program = sys.argv[1] if len(sys.argv) > 1 else None
+    if program is None:
+        built = subprocess.run([os.path.join(TOP, "joistginger"), "--where"],
+                               stdout=subprocess.PIPE, check=True)
+        program = built.stdout.decode().strip()
+    print_declarations(program)
+    print()
+    print_memberships(program)
 
 
 if __name__ == "__main__":
