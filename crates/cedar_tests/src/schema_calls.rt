@@ -144,12 +144,18 @@ fn nodes(rt: HostRuntime) -> Result<(), Fail> {
 }
 
 #[test]
-fn errors(rt: HostRuntime) -> Result<(), Fail> {
+fn not_built(rt: HostRuntime) -> Result<(), Fail> {
     let alloc = rt.alloc();
     let not_built = CedarSchemaError::NotBuilt.dup(alloc)?;
     assert_eq!(rt; not_built.to_string(alloc)?.as_str(), "not built yet");
     assert!(rt; not_built.help(alloc)?.is_none());
     assert_eq!(rt; not_built.spans(alloc)?.len(), 0);
+    Ok(())
+}
+
+#[test]
+fn declared_twice(rt: HostRuntime) -> Result<(), Fail> {
+    let alloc = rt.alloc();
     let twice = CedarSchemaError::DuplicateDeclarations {
         name: Text::new(alloc, "A")?,
     };
