@@ -1,0 +1,5 @@
+-- SPDX-License-Identifier: Apache-2.0
+pub mod Grammar
+pub mod Productions
+pub mod Reading
+pub mod Trees

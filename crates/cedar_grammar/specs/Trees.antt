@@ -1,0 +1,171 @@
+-- SPDX-License-Identifier: Apache-2.0
+-- What a schema says, with the places of its pieces.
+use Rattle.std.specs.Prelude.{ℕ, ◌+◌, max, Bool, List, [], ◌∷◌, Option, option_to_list, flat_map}
+
+-- the byte offsets at which a piece starts and ends
+abbrev pub Place : Type 0
+Place = ℕ × ℕ
+
+-- something that stands at a place
+pub record Node (A : Type 0) : Type 0 where
+  pub node : A
+  pub loc : Place
+
+-- x, which stands from here to there
+abbrev pub placed : {A : Type 0} → A → ℕ → ℕ → Node A
+placed x start end = record { node = x; loc = (start, end) }
+
+-- where a piece starts
+abbrev pub start_of : {A : Type 0} → Node A → ℕ
+start_of n = n.loc.0
+
+-- where it ends
+abbrev pub end_of : {A : Type 0} → Node A → ℕ
+end_of n = n.loc.1
+
+-- the bytes of a word, or those that a string literal stands for
+abbrev pub Text : Type 0
+Text = List ℕ
+
+-- `a::b::c`: its identifiers
+abbrev pub Path : Type 0
+Path = Node (List Text)
+
+-- `@key("value")`; the value is empty where none stands
+pub record Annotation : Type 0 where
+  pub key : Text
+  pub value : Text
+
+-- annotations, in the order of the text
+abbrev pub Annotations : Type 0
+Annotations = List (Node Annotation)
+
+-- something behind its annotations
+pub record Annotated (A : Type 0) : Type 0 where
+  pub item : A
+  pub annotations : Annotations
+
+-- a type, and the attributes of a record, in the order of the text
+mutual
+  pub data TypeTree : Type 0 where
+    -- `Set<..>`: its element, and the place of that
+    Set : TypeTree → Place → TypeTree
+    -- a name
+    Ident : Path → TypeTree
+    -- `{..}`
+    Record : Attrs → TypeTree
+
+  pub data Attrs : Type 0 where
+    no_attrs : Attrs
+    -- the annotations of the first attribute, its name, whether it is required, its type and the place of that, and its own place; and the others
+    attr : Annotations → Node Text → Bool → TypeTree → Place → Place → Attrs → Attrs
+
+-- an attribute, whose name is required to be there or not
+pub record AttrDecl : Type 0 where
+  pub name : Node Text
+  pub required : Bool
+  pub ty : Node TypeTree
+
+-- these attributes; the place of each leaves its annotations out
+abbrev pub attrs_of : List (Annotated (Node AttrDecl)) → Attrs
+attrs_of [] = no_attrs
+attrs_of (a ∷ others) = attr a.annotations a.item.node.name a.item.node.required a.item.node.ty.node a.item.node.ty.loc a.item.loc (attrs_of others)
+
+-- `entity a, b in [c] { .. } tags t;`
+pub record StandardEntityDecl : Type 0 where
+  pub names : List (Node Text)
+  pub member_of_types : List Path
+  pub attrs : Node Attrs
+  pub tags : Option (Node TypeTree)
+
+-- `entity a, b enum ["x", "y"];`
+pub record EnumEntityDecl : Type 0 where
+  pub names : List (Node Text)
+  pub choices : List (Node Text)
+
+-- a declaration of entity types, enumerated ones or others
+pub data EntityDecl : Type 0 where
+  Standard : StandardEntityDecl → EntityDecl
+  Enum : EnumEntityDecl → EntityDecl
+
+-- what an action applies to: `principal` or `resource`
+pub data PR : Type 0 where
+  Principal : PR
+  Resource : PR
+
+-- what a context is: the name of a type, or attributes
+pub data ContextDecl : Type 0 where
+  Named : Path → ContextDecl
+  Shape : Node Attrs → ContextDecl
+
+-- a line of `appliesTo`
+pub data AppDecl : Type 0 where
+  -- `principal: [a, b]`
+  Types : Node PR → List Path → AppDecl
+  -- `context: { .. }`
+  Context : ContextDecl → AppDecl
+
+-- an action that another names as its parent: `a::"b"`, or a name alone
+pub record QualName : Type 0 where
+  pub path : Option Path
+  pub eid : Text
+
+-- `action a, b in [c] appliesTo { .. };`
+pub record ActionDecl : Type 0 where
+  pub names : List (Node Text)
+  pub parents : List (Node QualName)
+  pub app_decls : Option (Node (List (Node AppDecl)))
+
+-- `type a = t;`
+pub record TypeDecl : Type 0 where
+  pub name : Node Text
+  pub def : Node TypeTree
+
+-- a declaration
+pub data Declaration : Type 0 where
+  Entity : EntityDecl → Declaration
+  Action : ActionDecl → Declaration
+  Common : TypeDecl → Declaration
+
+-- the declarations between braces behind `namespace` and a name, or one declaration that stands in none
+pub record Namespace : Type 0 where
+  pub name : Option Path
+  pub decls : List (Annotated (Node Declaration))
+  pub loc : Option Place
+
+-- namespaces with their annotations, in the order of the text
+abbrev pub Schema : Type 0
+Schema = List (Annotated Namespace)
+
+-- how deep a type nests: a name not at all, else one more than the greatest of its parts
+abbrev mutual
+  pub nest : TypeTree → ℕ
+  nest (Set element place) = nest element + 1
+  nest (Ident name) = 0
+  nest (Record attrs) = greatest_nest attrs + 1
+
+  -- the greatest nest of some attributes, 0 where there are none
+  pub greatest_nest : Attrs → ℕ
+  greatest_nest no_attrs = 0
+  greatest_nest (attr annotations name required ty place own others) = max (nest ty) (greatest_nest others)
+
+-- the record of a context
+abbrev pub types_of_app : AppDecl → List (Node TypeTree)
+types_of_app (Types which names) = []
+types_of_app (Context (Named name)) = []
+types_of_app (Context (Shape r)) = record { node = Record r.node; loc = r.loc } ∷ []
+
+-- the record and the tags of entity types, the records of contexts, and a type that is given a name
+abbrev pub types_of_decl : Declaration → List (Node TypeTree)
+types_of_decl (Entity (Standard e)) = record { node = Record e.attrs.node; loc = e.attrs.loc } ∷ option_to_list e.tags
+types_of_decl (Entity (Enum e)) = []
+types_of_decl (Action a) = flat_map (λ d. types_of_app d.node) (flat_map (λ apps. apps.node) (option_to_list a.app_decls))
+types_of_decl (Common t) = t.def ∷ []
+
+-- those of the declarations of a namespace
+abbrev pub types_of_namespace : Annotated Namespace → List (Node TypeTree)
+types_of_namespace n = flat_map (λ d. types_of_decl d.item.node) n.item.decls
+
+-- the outermost types of a schema, in the order of the text; the record of an entity type is one of them also where none stands
+abbrev pub outermost_types : Schema → List (Node TypeTree)
+outermost_types s = flat_map types_of_namespace s

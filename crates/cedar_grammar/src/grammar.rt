@@ -1,0 +1,25 @@
+// SPDX-License-Identifier: Apache-2.0
+ghost use Rattle.std.specs.Prelude.{◌↔◌, ◌≤◌, ◌++◌, ℕ, List};
+ghost use Rattle.cedar_tokens.specs.Lexemes.{TextToken};
+ghost use Rattle.cedar_grammar.specs.Grammar.{schema, type_upto, Reads, Viable};
+ghost use Rattle.cedar_grammar.specs.Productions.{Completable};
+ghost use Rattle.cedar_grammar.specs.Trees.{Node, Schema, TypeTree, nest};
+
+/// A law with no work to do: the tokens at which a schema may stop short are exactly those that
+/// some further tokens complete to a schema, however deep types may nest.
+pub fn grammar_viable()
+    ensures at_level { (n : ℕ) (tokens : List TextToken)
+        → (schema (type_upto n)).begins tokens ↔ Completable (schema (type_upto n)) tokens }
+
+    // The same, where the levels are left open.
+    ensures viable { (tokens : List TextToken)
+        → Viable tokens ↔ ((further : List TextToken) × (s : Schema) × Reads (tokens ++ further) s) }
+{}
+
+/// A law with no work to do: the types of a level are exactly those of all levels that nest no
+/// deeper.
+pub fn levels_nest()
+    ensures { (n : ℕ) (tokens : List TextToken) (ty : Node TypeTree) (rest : List TextToken)
+        → (type_upto n).reads tokens ty rest
+        ↔ (((m : ℕ) × (type_upto m).reads tokens ty rest) × (nest ty.node ≤ n)) }
+{}

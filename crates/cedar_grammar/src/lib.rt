@@ -1,0 +1,7 @@
+// SPDX-License-Identifier: Apache-2.0
+//! The grammar of the human schema syntax, as definitions, and its laws.
+#![tactic(auto)]
+
+mod grammar;
+
+pub use grammar::{grammar_viable, levels_nest};

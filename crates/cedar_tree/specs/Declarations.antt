@@ -1,0 +1,21 @@
+-- SPDX-License-Identifier: Apache-2.0
+use Rattle.std.specs.Prelude.{ℕ, List}
+use Rattle.cedar_names.specs.Identifiers.{id_word}
+use Rattle.cedar_names.specs.declared.id.Id.{Id}
+use Rattle.cedar_text.specs.Lists.{elements}
+use Rattle.cedar_text.specs.declared.node.Node.{Node}
+use Rattle.cedar_tree.specs.declared.declaration.EntityDecl.{EntityDecl}
+use Rattle.cedar_tree.specs.declared.declaration.EntityDecl.TheVariants.{Standard, Enum}
+
+-- the names of the entity types
+abbrev pub entity_names : EntityDecl → List (Node Id)
+entity_names (Standard decl) = elements decl.names
+entity_names (Enum decl) = elements decl.names
+
+-- a text at its place
+abbrev pub TextAt : Type 0
+TextAt = Node (List ℕ)
+
+-- the word of an identifier, at its place
+abbrev pub word_of : Node Id → TextAt
+word_of id = record { node = id_word id.node; loc = id.loc }

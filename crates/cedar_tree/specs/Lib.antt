@@ -1,0 +1,6 @@
+-- SPDX-License-Identifier: Apache-2.0
+pub use Rattle.cedar_data.specs.formers
+pub mod Annotating
+pub mod Declarations
+pub mod Faults
+pub mod Paths

@@ -1,0 +1,299 @@
+// SPDX-License-Identifier: Apache-2.0
+ghost use Rattle.std.specs.Prelude.{◌≡◌, [], ◌∷◌, None, Some, IfOk, MatchOption};
+ghost use Rattle.cedar_text.specs.Lists.{elements, elements_left};
+ghost use Rattle.cedar_tree.specs.Faults.{user_span, user_text, kind_text, primary_span, second_span, error_spans, all_spans, error_list, first_kind};
+
+use cedar_data::{Dup, Items, Mem, Text};
+use cedar_names::{AnyId, BadEscape, Node, NonEmpty, NonEmptyIter, Span};
+use std::alloc::Global;
+use std::error::Error;
+use std::fmt;
+
+/// Why a text in the right form is refused all the same.
+#[derive(Debug, Drop, PartialEq, Eq)]
+pub enum UserError {
+    /// The list that stands here has to have an item.
+    EmptyList(Span),
+    /// The literal that stands here has this bad escape.
+    StringEscape(Span, BadEscape),
+    /// The word is reserved, and names nothing.
+    ReservedIdentifierUsed(Node<Text>),
+    /// The key stands at both places, the first of them before the second.
+    DuplicateAnnotations(AnyId, Span, Span),
+}
+
+/// What is wrong with a text that is no schema.
+#[derive(Debug, Drop, PartialEq, Eq)]
+pub enum ParseErrorKind {
+    /// No token begins at this byte offset.
+    InvalidToken { location: usize },
+    /// The text ends here, and a schema would go on.
+    UnrecognizedEof { location: usize },
+    /// A schema goes on otherwise than by this token.
+    UnrecognizedToken { span: Span, token: Text },
+    /// The schema ends before this token.
+    ExtraToken { span: Span, token: Text },
+    /// The form is right, and a rule on what stands in it is broken.
+    User(UserError),
+    /// Types or brackets nest too deep here.
+    TooDeep { span: Span },
+}
+
+/// What is wrong with a text that is no schema, and the text.
+#[derive(Debug, Drop, PartialEq, Eq)]
+pub struct ParseError {
+    pub kind: ParseErrorKind,
+    pub src: Text,
+}
+
+/// All that is wrong with a text: one error at least.
+#[derive(Debug, Drop, PartialEq, Eq)]
+pub struct ParseErrors {
+    errors: NonEmpty<ParseError>,
+}
+
+impl UserError {
+    /// The place to show: the earlier one where there are two.
+    fn primary_span(&self) -> Span
+        ensures { result ≡ user_span self.now }
+    {
+        match self {
+            UserError::EmptyList(span) => *span,
+            UserError::StringEscape(span, _) => *span,
+            UserError::ReservedIdentifierUsed(word) => Span {
+                start: word.loc.start,
+                end: word.loc.end,
+            },
+            UserError::DuplicateAnnotations(_, first, _) => *first,
+        }
+    }
+}
+
+impl ParseError {
+    /// The place to show: an empty one where only an offset is known, and the earlier one where there are two.
+    pub fn primary_source_span(&self) -> Span
+        ensures { result ≡ primary_span self.now }
+    {
+        match &self.kind {
+            ParseErrorKind::InvalidToken { location } => Span {
+                start: *location,
+                end: *location,
+            },
+            ParseErrorKind::UnrecognizedEof { location } => Span {
+                start: *location,
+                end: *location,
+            },
+            ParseErrorKind::UnrecognizedToken { span, .. } => *span,
+            ParseErrorKind::ExtraToken { span, .. } => *span,
+            ParseErrorKind::User(error) => error.primary_span(),
+            ParseErrorKind::TooDeep { span } => *span,
+        }
+    }
+
+    /// What to do about the error: there is nothing to say.
+    pub fn help(&self, _alloc: Global) -> Mem<Option<String>>
+        ensures { IfOk result (λ help. help ≡ None) }
+    {
+        Ok(None)
+    }
+
+    /// The places of the error: the one to show, and for a key that stands twice the later one behind it. It fails only
+    /// for want of memory.
+    pub fn spans(&self, alloc: Global) -> Mem<Vec<Span>>
+        ensures { IfOk result (λ spans. spans.items ≡ error_spans self.now) }
+    {
+        let mut spans = Vec::new(alloc);
+        spans.push(self.primary_source_span())?;
+        if let Some(second) = self.second_span() {
+            spans.push(second)?;
+        }
+        Ok(spans)
+    }
+
+    /// The later place of a key that stands twice.
+    fn second_span(&self) -> Option<Span>
+        ensures { result ≡ second_span self.now }
+    {
+        match &self.kind {
+            ParseErrorKind::User(UserError::DuplicateAnnotations(_, _, second)) => Some(*second),
+            _ => None,
+        }
+    }
+}
+
+impl ParseErrors {
+    /// The errors, from the first.
+    pub fn new(first: ParseError, tail: Vec<ParseError>) -> ParseErrors
+        ensures { error_list result ≡ first ∷ tail.items }
+    {
+        ParseErrors {
+            errors: NonEmpty {
+                head: first,
+                tail: Items::from_vec(tail),
+            },
+        }
+    }
+
+    /// The errors of the list, unless it is empty.
+    pub fn from_iter(v: Vec<ParseError>) -> Option<ParseErrors>
+        ensures { MatchOption result (v.items ≡ []) (λ errors. error_list errors ≡ v.items) }
+    {
+        match NonEmpty::from_vec(v) {
+            None => None,
+            Some(errors) => Some(ParseErrors { errors }),
+        }
+    }
+
+    /// The errors, in order.
+    pub fn iter(&self) -> NonEmptyIter<'_, ParseError>
+        ensures { elements_left result ≡ error_list self.now }
+    {
+        self.errors.iter()
+    }
+
+    /// The errors, in order.
+    pub fn into_inner(self) -> NonEmpty<ParseError>
+        ensures { elements result ≡ error_list self }
+    {
+        let ParseErrors { errors } = self;
+        errors
+    }
+
+    /// What to do about the errors: there is nothing to say.
+    pub fn help(&self, _alloc: Global) -> Mem<Option<String>>
+        ensures { IfOk result (λ help. help ≡ None) }
+    {
+        Ok(None)
+    }
+
+    /// The places of all errors, in order. It fails only for want of memory.
+    pub fn spans(&self, alloc: Global) -> Mem<Vec<Span>>
+        ensures { IfOk result (λ spans. spans.items ≡ all_spans (error_list self.now)) }
+    {
+        let mut spans = self.errors.head.spans(alloc)?;
+        for error in self.errors.tail.as_slice() {
+            spans.push(error.primary_source_span())?;
+            if let Some(second) = error.second_span() {
+                spans.push(second)?;
+            }
+        }
+        Ok(spans)
+    }
+}
+
+impl fmt::Display for UserError {
+    ghost output = { λ error. Some (user_text error) };
+
+    fn fmt<W: fmt::Write>(&self, f: &mut fmt::Formatter<W>) -> fmt::Result {
+        match self {
+            UserError::EmptyList(_) => write!(f, "An empty list was passed"),
+            UserError::StringEscape(_, _) => write!(f, "Invalid escape codes"),
+            UserError::ReservedIdentifierUsed(word) => {
+                let word = &word.node;
+                write!(f, "`{word}` is a reserved identifier")
+            }
+            UserError::DuplicateAnnotations(key, _, _) => {
+                write!(f, "duplicate annotations: `{key}`")
+            }
+        }
+    }
+}
+
+impl Error for UserError {}
+
+impl fmt::Display for ParseErrorKind {
+    ghost output = { λ kind. Some (kind_text kind) };
+
+    fn fmt<W: fmt::Write>(&self, f: &mut fmt::Formatter<W>) -> fmt::Result {
+        match self {
+            ParseErrorKind::InvalidToken { .. } => write!(f, "invalid token"),
+            ParseErrorKind::UnrecognizedEof { .. } => write!(f, "unexpected end of input"),
+            ParseErrorKind::UnrecognizedToken { token, .. } => {
+                write!(f, "unexpected token `{token}`")
+            }
+            ParseErrorKind::ExtraToken { token, .. } => write!(f, "extra token `{token}`"),
+            ParseErrorKind::User(error) => error.fmt(f),
+            ParseErrorKind::TooDeep { .. } => write!(f, "type or bracket nesting is too deep"),
+        }
+    }
+}
+
+impl Error for ParseErrorKind {}
+
+impl fmt::Display for ParseError {
+    ghost output = { λ error. Some (kind_text error.kind) };
+
+    fn fmt<W: fmt::Write>(&self, f: &mut fmt::Formatter<W>) -> fmt::Result {
+        self.kind.fmt(f)
+    }
+}
+
+impl Error for ParseError {}
+
+impl fmt::Display for ParseErrors {
+    ghost output = { λ errors. Some (kind_text (first_kind errors)) };
+
+    fn fmt<W: fmt::Write>(&self, f: &mut fmt::Formatter<W>) -> fmt::Result {
+        self.errors.head.fmt(f)
+    }
+}
+
+impl Error for ParseErrors {}
+
+impl Dup for UserError {
+    fn dup(&self, alloc: Global) -> Mem<UserError> {
+        match self {
+            UserError::EmptyList(span) => Ok(UserError::EmptyList(*span)),
+            UserError::StringEscape(span, escape) => Ok(UserError::StringEscape(*span, *escape)),
+            UserError::ReservedIdentifierUsed(word) => {
+                let word = word.dup(alloc)?;
+                Ok(UserError::ReservedIdentifierUsed(word))
+            }
+            UserError::DuplicateAnnotations(key, first, second) => {
+                let key = key.dup(alloc)?;
+                Ok(UserError::DuplicateAnnotations(key, *first, *second))
+            }
+        }
+    }
+}
+
+impl Dup for ParseErrorKind {
+    fn dup(&self, alloc: Global) -> Mem<ParseErrorKind> {
+        match self {
+            ParseErrorKind::InvalidToken { location } => Ok(ParseErrorKind::InvalidToken {
+                location: *location,
+            }),
+            ParseErrorKind::UnrecognizedEof { location } => Ok(ParseErrorKind::UnrecognizedEof {
+                location: *location,
+            }),
+            ParseErrorKind::UnrecognizedToken { span, token } => {
+                let token = token.dup(alloc)?;
+                Ok(ParseErrorKind::UnrecognizedToken { span: *span, token })
+            }
+            ParseErrorKind::ExtraToken { span, token } => {
+                let token = token.dup(alloc)?;
+                Ok(ParseErrorKind::ExtraToken { span: *span, token })
+            }
+            ParseErrorKind::User(error) => {
+                let error = error.dup(alloc)?;
+                Ok(ParseErrorKind::User(error))
+            }
+            ParseErrorKind::TooDeep { span } => Ok(ParseErrorKind::TooDeep { span: *span }),
+        }
+    }
+}
+
+impl Dup for ParseError {
+    fn dup(&self, alloc: Global) -> Mem<ParseError> {
+        let kind = self.kind.dup(alloc)?;
+        let src = self.src.dup(alloc)?;
+        Ok(ParseError { kind, src })
+    }
+}
+
+impl Dup for ParseErrors {
+    fn dup(&self, alloc: Global) -> Mem<ParseErrors> {
+        let errors = self.errors.dup(alloc)?;
+        Ok(ParseErrors { errors })
+    }
+}
