@@ -10,6 +10,8 @@ mod entity_uids;
 #[cfg(test)]
 mod escape_calls;
 #[cfg(test)]
+mod fault_calls;
+#[cfg(test)]
 mod name_calls;
 #[cfg(test)]
 mod qualified_names;

@@ -10,7 +10,7 @@ ghost use Rattle.cedar_text.specs.Words.{has_word, is_primitive_word, is_unreser
 
 use crate::id::UnreservedId;
 use cedar_data::{Dup, Failure, Mem, Out, Set, Text};
-use cedar_text::{NameFault, is_primitive_word};
+use cedar_text::{NameFault, Span, is_primitive_word};
 use std::alloc::Global;
 use std::collections::btree_set::Iter;
 use std::error::Error;
@@ -142,6 +142,22 @@ impl fmt::Display for ExtensionsFault {
                 "extension name `{name}` is a primitive type"
             ),
         }
+    }
+}
+
+impl ExtensionsFault {
+    /// What to do about it: there is nothing to say.
+    pub fn help(&self, _alloc: Global) -> Mem<Option<String>>
+        ensures { IfOk result (λ help. help ≡ None) }
+    {
+        Ok(None)
+    }
+
+    /// The places of the kept pieces that have one: none has.
+    pub fn spans(&self, alloc: Global) -> Mem<Vec<Span>>
+        ensures { IfOk result (λ spans. spans.items ≡ []) }
+    {
+        Ok(Vec::new(alloc))
     }
 }
 

@@ -18,7 +18,7 @@ use crate::components::Components;
 use crate::id::Id;
 use crate::normal_name::{name_of_ids, normalized_ids};
 use cedar_data::{Dup, Items, Mem, Out};
-use cedar_text::{Loc, NameFault, is_cedar};
+use cedar_text::{Loc, NameFault, Span, is_cedar};
 use std::alloc::Global;
 use std::cmp::Ordering;
 use std::error::Error;
@@ -262,6 +262,30 @@ impl fmt::Display for ReservedNameError {
     fn fmt<W: fmt::Write>(&self, f: &mut fmt::Formatter<W>) -> fmt::Result {
         let name = &self.name;
         write!(f, "the name `{name}` contains `__cedar`, which is reserved")
+    }
+}
+
+impl ReservedNameError {
+    ghost use Rattle.std.specs.Prelude.{option_to_list};
+    ghost use Rattle.std.specs.Option.{option_map};
+    ghost use Rattle.cedar_text.specs.Places.{span_of};
+
+    /// What to do about it: there is nothing to say.
+    pub fn help(&self, _alloc: Global) -> Mem<Option<String>>
+        ensures { IfOk result (λ help. help ≡ None) }
+    {
+        Ok(None)
+    }
+
+    /// The places of the kept pieces that have one: that of the name, if it has one.
+    pub fn spans(&self, alloc: Global) -> Mem<Vec<Span>>
+        ensures { IfOk result (λ spans. spans.items ≡ option_to_list (option_map span_of (loc_of self.now.name))) }
+    {
+        let mut spans = Vec::new(alloc);
+        if let Some(loc) = self.name.loc() {
+            spans.push(loc.span())?;
+        }
+        Ok(spans)
     }
 }
 

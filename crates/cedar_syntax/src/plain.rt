@@ -8,7 +8,7 @@ ghost use Rattle.cedar_syntax.specs.Plain.{DeclTree, PlainReading, ReadsPlain, d
 use crate::lexer::tokens;
 use crate::parser::Parser;
 use cedar_data::{Boxed, Dup, Failure, Items, Mem, Out, Text};
-use cedar_names::Id;
+use cedar_names::{Id, Span};
 use std::alloc::Global;
 use std::error::Error;
 use std::fmt;
@@ -44,6 +44,24 @@ impl fmt::Display for NoPlainReading {
 
     fn fmt<W: fmt::Write>(&self, f: &mut fmt::Formatter<W>) -> fmt::Result {
         write!(f, "not built yet")
+    }
+}
+
+impl NoPlainReading {
+    ghost use Rattle.std.specs.Prelude.{◌≡◌, [], None, IfOk};
+
+    /// What to do about it: there is nothing to say.
+    pub fn help(&self, _alloc: Global) -> Mem<Option<String>>
+        ensures { IfOk result (λ help. help ≡ None) }
+    {
+        Ok(None)
+    }
+
+    /// The places of the kept pieces that have one: none has.
+    pub fn spans(&self, alloc: Global) -> Mem<Vec<Span>>
+        ensures { IfOk result (λ spans. spans.items ≡ []) }
+    {
+        Ok(Vec::new(alloc))
     }
 }
 

@@ -1,6 +1,6 @@
 // SPDX-License-Identifier: Apache-2.0
 use cedar_names::{Dup, EntityType, Extensions, Mem, Name, Text, UnreservedId};
-use cedar_syntax::read_plain;
+use cedar_syntax::{NoPlainReading, read_plain};
 use cedar_types::{AttributeType, Attributes, OpenTag, TcNode, Type, TypeView};
 use cedar_validator::{CedarSchemaError, ValidatorSchema};
 use std::alloc::Global;
@@ -161,5 +161,7 @@ fn declared_twice(rt: HostRuntime) -> Result<(), Fail> {
     };
     assert_eq!(rt; twice.dup(alloc)?, twice);
     assert!(rt; twice.help(alloc)?.is_none());
+    assert!(rt; NoPlainReading.help(alloc)?.is_none());
+    assert_eq!(rt; NoPlainReading.spans(alloc)?.len(), 0);
     Ok(())
 }

@@ -1,6 +1,7 @@
 // SPDX-License-Identifier: Apache-2.0
 ghost use Rattle.std.specs.Prelude.{Some};
 
+use crate::location::Span;
 use cedar_data::{Dup, Mem, Text};
 use std::alloc::Global;
 use std::error::Error;
@@ -29,6 +30,24 @@ impl fmt::Display for NameFault {
             NameFault::BadToken { at: _, token } => write!(f, "unexpected token `{token}`"),
             NameFault::Reserved { word } => write!(f, "`{word}` is a reserved identifier"),
         }
+    }
+}
+
+impl NameFault {
+    ghost use Rattle.std.specs.Prelude.{◌≡◌, [], None, IfOk};
+
+    /// What to do about it: there is nothing to say.
+    pub fn help(&self, _alloc: Global) -> Mem<Option<String>>
+        ensures { IfOk result (λ help. help ≡ None) }
+    {
+        Ok(None)
+    }
+
+    /// The places of the kept pieces that have one: none has.
+    pub fn spans(&self, alloc: Global) -> Mem<Vec<Span>>
+        ensures { IfOk result (λ spans. spans.items ≡ []) }
+    {
+        Ok(Vec::new(alloc))
     }
 }
 

@@ -1,6 +1,6 @@
 // SPDX-License-Identifier: Apache-2.0
 ghost use Rattle.std.specs.Prelude.{◌≡◌, MatchOption, slice_range};
-ghost use Rattle.cedar_text.specs.Places.{IsTextRange};
+ghost use Rattle.cedar_text.specs.Places.{IsTextRange, span_of};
 
 use cedar_data::{Dup, Mem, Text};
 use std::alloc::Global;
@@ -28,6 +28,16 @@ impl Loc {
         ensures src { result.src ≡ src }
     {
         Loc { start, end, src }
+    }
+
+    /// The range.
+    pub fn span(&self) -> Span
+        ensures { result ≡ span_of self.now }
+    {
+        Span {
+            start: self.start,
+            end: self.end,
+        }
     }
 
     /// The slice of the source, where the place is a range on character boundaries of it.

@@ -8,6 +8,7 @@ ghost use Rattle.cedar_text.specs.Escapes.{escaped};
 ghost use Rattle.cedar_text.specs.Failures.{IfRefused};
 ghost use Rattle.cedar_text.specs.Unescaping.{sign_meaning, hex_value, hex_meaning, digits_meaning, braced_meaning, meaning_of, is_plain, unescaped};
 
+use crate::location::Span;
 use cedar_data::{Dup, Failure, Mem, Out};
 use std::alloc::Global;
 use std::error::Error;
@@ -31,6 +32,24 @@ impl fmt::Display for BadEscape {
 
     fn fmt<W: fmt::Write>(&self, f: &mut fmt::Formatter<W>) -> fmt::Result {
         write!(f, "Invalid escape codes")
+    }
+}
+
+impl BadEscape {
+    ghost use Rattle.std.specs.Prelude.{[]};
+
+    /// What to do about it: there is nothing to say.
+    pub fn help(&self, _alloc: Global) -> Mem<Option<String>>
+        ensures { IfOk result (λ help. help ≡ None) }
+    {
+        Ok(None)
+    }
+
+    /// The places of the kept pieces that have one: none has.
+    pub fn spans(&self, alloc: Global) -> Mem<Vec<Span>>
+        ensures { IfOk result (λ spans. spans.items ≡ []) }
+    {
+        Ok(Vec::new(alloc))
     }
 }
 

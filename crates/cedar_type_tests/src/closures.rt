@@ -98,3 +98,12 @@ fn errors_are_shown(rt: HostRuntime) -> Result<(), Fail> {
     assert_eq!(rt; missing.to_string(alloc)?.as_str(), "missing edge at `3`");
     Ok(())
 }
+
+#[test]
+fn errors_have_neither_help_nor_places(rt: HostRuntime) -> Result<(), Fail> {
+    let alloc = rt.alloc();
+    let error = TcError::MissingTcEdge { vertex: 3u32 };
+    assert!(rt; error.help(alloc)?.is_none());
+    assert_eq!(rt; error.spans(alloc)?.len(), 0);
+    Ok(())
+}
