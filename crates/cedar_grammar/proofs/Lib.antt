@@ -1,5 +1,17 @@
 -- SPDX-License-Identifier: Apache-2.0
+pub mod Actions
 pub mod Agreement
+pub mod Annotations
+pub mod Choices
+pub mod Entities
 pub mod FreshKeys
 pub mod Levels
+pub mod Lifting
+pub mod Lists
+pub mod Names
+pub mod Readers
+pub mod Schemas
+pub mod Tokens
+pub mod Types
 pub mod Viability
+pub mod Wholes

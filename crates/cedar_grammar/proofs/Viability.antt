@@ -5,89 +5,93 @@ use Rattle.std.proofs.lemmas.Slice.Eq.{bytes_eq-Decides}
 use Rattle.cedar_tokens.specs.Lexemes.{TextToken}
 use Rattle.cedar_tokens.specs.declared.token.TokenKind.{TokenKind}
 use Rattle.cedar_tokens.specs.declared.token.TokenKind.TheVariants as kind
-use Rattle.cedar_grammar.specs.Productions.{Production, class, gives, ◌>>=◌, ◌>>◌, ◌∣◌, many, optional, maybe, trailing, Completable}
-use Rattle.cedar_grammar.specs.Trees.{Node, placed, start_of, end_of, Annotations, TypeTree, Set, no_attrs, attrs_of, Principal, Resource, Named, Shape, Types, Context, Schema}
+use Rattle.cedar_grammar.specs.Productions.{each, Production, class, gives, ◌>>=◌, ◌>>◌, ◌∣◌, many, optional, maybe, trailing, Completable}
+use Rattle.cedar_grammar.specs.Trees.{Node, stands, placed, Place, Annotations, ByKey, by_key, TypeTree, Set, no_attrs, attrs_of, Principal, Resource, Named, Shape, Types, Context, Schema}
 use Rattle.cedar_grammar.specs.Grammar.{at_token, text_where, is_word_token, is_keyword, is_mark_token, is_ident_token, literal_value, keyword, mark, word, str, ident, name, commas, bracketed, path_of, path, idents, names, one_or_list, types, qualified, ref, refs, annotation_of, keys_of, is_new_key, annotation, annots, annotated, attr_of, attr_decl, record_type, set_type, as_record, as_name, type_upto, tags_clause, standard_entity, enum_entity, pr, context_type, app_decl, applies_to, attributes_tail, action_decl, type_decl, decl, namespace, alone, item_behind, schema, Reads, Viable}
 use Rattle.cedar_grammar.proofs.Agreement.{Agrees, completed, begun, class_agrees, gives_agrees, either_agrees, then_agrees, many_agrees, each_agrees, optional_agrees, maybe_agrees, separated_agrees, trailing_agrees}
-use Rattle.cedar_grammar.proofs.FreshKeys.{fresh, fresh_is_new}
+use Rattle.cedar_grammar.proofs.FreshKeys.{fresh, fresh_is_new, fresh_is_word}
+
+-- some place
+abbrev nowhere : Place
+nowhere = record { start = 0; end = 0; src = [] }
 
 -- some token of this kind and text
-abbrev some : TokenKind → List ℕ → TextToken
-some k s = record { kind = k; text = s; start = 0; end = 0 }
+abbrev pub some : TokenKind → List ℕ → TextToken
+some k s = record { kind = k; text = s; loc = nowhere }
 
-text_agrees : (p : TextToken → Bool) (t : TextToken) → p t ≡ true → Agrees (class (text_where p))
+pub text_agrees : (p : TextToken → Bool) (t : TextToken) → p t ≡ true → Agrees (class (text_where p))
 text_agrees p t e = class_agrees (text_where p) t (at_token t t.text) (rw e refl)
 
-keyword_agrees : (s : List ℕ) → Agrees (keyword s)
+pub keyword_agrees : (s : List ℕ) → Agrees (keyword s)
 keyword_agrees s = text_agrees (is_keyword s) (some kind.Word s) ((bytes_eq-Decides s s).1 refl)
 
-mark_agrees : (s : List ℕ) → Agrees (mark s)
+pub mark_agrees : (s : List ℕ) → Agrees (mark s)
 mark_agrees s = text_agrees (is_mark_token s) (some kind.Punct s) ((bytes_eq-Decides s s).1 refl)
 
-word_agrees : Agrees word
+pub word_agrees : Agrees word
 word_agrees = text_agrees is_word_token (some kind.Word (97 ∷ [])) refl
 
-ident_agrees : Agrees ident
+pub ident_agrees : Agrees ident
 ident_agrees = text_agrees is_ident_token (some kind.Word (97 ∷ [])) refl
 
-str_agrees : Agrees str
-str_agrees = class_agrees literal_value (some kind.Str (34 ∷ 34 ∷ [])) (placed [] 0 0) refl
+pub str_agrees : Agrees str
+str_agrees = class_agrees literal_value (some kind.Str (34 ∷ 34 ∷ [])) (stands [] nowhere) refl
 
-name_agrees : Agrees name
+pub name_agrees : Agrees name
 name_agrees = either_agrees word str word_agrees str_agrees
 
-commas_agree : {A : Type 0} (R : Production TextToken A) → Agrees R → Agrees (commas R)
+pub commas_agree : {A : Type 0} (R : Production TextToken A) → Agrees R → Agrees (commas R)
 commas_agree R a = separated_agrees (mark (codes ",")) R (mark_agrees (codes ",")) a
 
-bracketed_agrees : {A : Type 0} (opening closing : List ℕ) (R : Production TextToken A) → Agrees R → Agrees (bracketed opening closing R)
+pub bracketed_agrees : {A : Type 0} (opening closing : List ℕ) (R : Production TextToken A) → Agrees R → Agrees (bracketed opening closing R)
 bracketed_agrees opening closing R a =
     then_agrees (mark opening) _ (mark_agrees opening) (λ before.
     then_agrees R _ a (λ x.
-    then_agrees (mark closing) _ (mark_agrees closing) (λ behind. gives_agrees (placed x (start_of before) (end_of behind)))))
+    then_agrees (mark closing) _ (mark_agrees closing) (λ behind. gives_agrees (placed x before.loc behind.loc))))
 
-one_or_list_agrees : {A : Type 0} (R : Production TextToken (Node A)) → Agrees R → Agrees (one_or_list R)
+pub one_or_list_agrees : {A : Type 0} (R : Production TextToken (Node A)) → Agrees R → Agrees (one_or_list R)
 one_or_list_agrees R a =
-    either_agrees (R >>= λ x. gives (placed (x ∷ []) (start_of x) (end_of x))) (bracketed (codes "[") (codes "]") (commas R ∣ gives []))
-    (then_agrees R _ a (λ x. gives_agrees (placed (x ∷ []) (start_of x) (end_of x))))
+    either_agrees (R >>= λ x. gives (stands (x ∷ []) x.loc)) (bracketed (codes "[") (codes "]") (commas R ∣ gives []))
+    (then_agrees R _ a (λ x. gives_agrees (stands (x ∷ []) x.loc)))
     (bracketed_agrees (codes "[") (codes "]") (commas R ∣ gives []) (either_agrees (commas R) (gives []) (commas_agree R a) (gives_agrees [])))
 
-path_agrees : Agrees path
+pub path_agrees : Agrees path
 path_agrees =
     then_agrees ident _ ident_agrees (λ n.
     then_agrees (many (mark (codes "::") >> ident)) _ (many_agrees (mark (codes "::") >> ident) (then_agrees (mark (codes "::")) _ (mark_agrees (codes "::")) (λ _. ident_agrees))) (λ others.
     gives_agrees (path_of n others)))
 
-types_agree : Agrees types
+pub types_agree : Agrees types
 types_agree = one_or_list_agrees path path_agrees
 
-ref_agrees : Agrees ref
+pub ref_agrees : Agrees ref
 ref_agrees =
-    either_agrees _ (name >>= λ id. gives (qualified None id (start_of id)))
+    either_agrees _ (name >>= λ id. gives (qualified None id id.loc))
     (then_agrees path _ path_agrees (λ p.
     then_agrees (mark (codes "::")) _ (mark_agrees (codes "::")) (λ _.
-    then_agrees str _ str_agrees (λ id. gives_agrees (qualified (Some p) id (start_of p))))))
-    (then_agrees name _ name_agrees (λ id. gives_agrees (qualified None id (start_of id))))
+    then_agrees str _ str_agrees (λ id. gives_agrees (qualified (Some p) id p.loc)))))
+    (then_agrees name _ name_agrees (λ id. gives_agrees (qualified None id id.loc)))
 
-new_key : (before : Annotations) → is_new_key before (some kind.Word (fresh (keys_of before))) ≡ true
-new_key before = rw (fresh_is_new (keys_of before)) refl
+pub new_key : (before : Annotations) → is_new_key before (some kind.Word (fresh (keys_of before))) ≡ true
+new_key before = rw (fresh_is_word (keys_of before), fresh_is_new (keys_of before)) refl
 
-annotation_agrees : (before : Annotations) → Agrees (annotation before)
+pub annotation_agrees : (before : Annotations) → Agrees (annotation before)
 annotation_agrees before =
     then_agrees (mark (codes "@")) _ (mark_agrees (codes "@")) (λ at.
     then_agrees (class (text_where (is_new_key before))) _ (text_agrees (is_new_key before) (some kind.Word (fresh (keys_of before))) (new_key before)) (λ key.
     then_agrees (maybe (bracketed (codes "(") (codes ")") str)) _ (maybe_agrees (bracketed (codes "(") (codes ")") str) (bracketed_agrees (codes "(") (codes ")") str str_agrees)) (λ value.
-    gives_agrees (annotation_of (start_of at) key value))))
+    gives_agrees (annotation_of at.loc key value))))
 
-annots_agree : Agrees annots
-annots_agree = each_agrees annotation annotation_agrees
+pub annots_agree : Agrees annots
+annots_agree = then_agrees (each annotation) _ (each_agrees annotation annotation_agrees) (λ written. gives_agrees (by_key written))
 
 module _ {A : Type 0} (R : Production TextToken A) (a : Agrees R) where
-  annotated_agrees : Agrees (annotated R)
+  pub annotated_agrees : Agrees (annotated R)
   annotated_agrees = then_agrees annots _ annots_agree (λ annotations. then_agrees R _ a (λ x. gives_agrees _))
 
 -- what holds at any type that agrees
 module _ (type : Production TextToken (Node TypeTree)) (a : Agrees type) where
-  attr_agrees : Agrees (attr_decl type)
+  pub attr_agrees : Agrees (attr_decl type)
   attr_agrees =
       annotated_agrees _
       (then_agrees name _ name_agrees (λ n.
@@ -95,23 +99,23 @@ module _ (type : Production TextToken (Node TypeTree)) (a : Agrees type) where
       then_agrees (mark (codes ":")) _ (mark_agrees (codes ":")) (λ _.
       then_agrees type _ a (λ ty. gives_agrees (attr_of n question ty))))))
 
-  record_agrees : Agrees (record_type type)
+  pub record_agrees : Agrees (record_type type)
   record_agrees =
       bracketed_agrees (codes "{") (codes "}") _
       (either_agrees _ (gives no_attrs)
       (then_agrees (trailing (mark (codes ",")) (attr_decl type)) _ (trailing_agrees (mark (codes ",")) (attr_decl type) (mark_agrees (codes ",")) attr_agrees) (λ xs. gives_agrees (attrs_of xs)))
       (gives_agrees no_attrs))
 
-  set_agrees : Agrees (set_type type)
+  pub set_agrees : Agrees (set_type type)
   set_agrees =
       then_agrees (keyword (codes "Set")) _ (keyword_agrees (codes "Set")) (λ set.
       then_agrees (bracketed (codes "<") (codes ">") type) _ (bracketed_agrees (codes "<") (codes ">") type a) (λ element.
-      gives_agrees (placed (Set element.node.node element.node.loc) (start_of set) (end_of element))))
+      gives_agrees (placed (Set element.node.node element.node.loc) set.loc element.loc)))
 
-named_agrees : Agrees (path >>= λ p. gives (as_name p))
+pub named_agrees : Agrees (path >>= λ p. gives (as_name p))
 named_agrees = then_agrees path _ path_agrees (λ p. gives_agrees (as_name p))
 
-type_agrees : (n : ℕ) → Agrees (type_upto n)
+pub type_agrees : (n : ℕ) → Agrees (type_upto n)
 type_agrees zero = named_agrees
 type_agrees (suc n) =
     either_agrees _ (path >>= λ p. gives (as_name p))
@@ -120,7 +124,7 @@ type_agrees (suc n) =
     (then_agrees (record_type (type_upto n)) _ (record_agrees (type_upto n) (type_agrees n)) (λ r. gives_agrees (as_record r))))
     named_agrees
 
-enum_agrees : Agrees enum_entity
+pub enum_agrees : Agrees enum_entity
 enum_agrees =
     then_agrees (keyword (codes "entity")) _ (keyword_agrees (codes "entity")) (λ entity.
     then_agrees idents _ (commas_agree ident ident_agrees) (λ ns.
@@ -128,23 +132,23 @@ enum_agrees =
     then_agrees (bracketed (codes "[") (codes "]") (commas str)) _ (bracketed_agrees (codes "[") (codes "]") (commas str) (commas_agree str str_agrees)) (λ choices.
     then_agrees (mark (codes ";")) _ (mark_agrees (codes ";")) (λ semicolon. gives_agrees _)))))
 
-pr_agrees : Agrees pr
+pub pr_agrees : Agrees pr
 pr_agrees =
-    either_agrees (keyword (codes "principal") >>= λ k. gives (placed Principal (start_of k) (end_of k))) (keyword (codes "resource") >>= λ k. gives (placed Resource (start_of k) (end_of k)))
-    (then_agrees (keyword (codes "principal")) _ (keyword_agrees (codes "principal")) (λ k. gives_agrees (placed Principal (start_of k) (end_of k))))
-    (then_agrees (keyword (codes "resource")) _ (keyword_agrees (codes "resource")) (λ k. gives_agrees (placed Resource (start_of k) (end_of k))))
+    either_agrees (keyword (codes "principal") >>= λ k. gives (stands Principal k.loc)) (keyword (codes "resource") >>= λ k. gives (stands Resource k.loc))
+    (then_agrees (keyword (codes "principal")) _ (keyword_agrees (codes "principal")) (λ k. gives_agrees (stands Principal k.loc)))
+    (then_agrees (keyword (codes "resource")) _ (keyword_agrees (codes "resource")) (λ k. gives_agrees (stands Resource k.loc)))
 
-tail_agrees : Agrees attributes_tail
+pub tail_agrees : Agrees attributes_tail
 tail_agrees =
     then_agrees (keyword (codes "attributes") >> mark (codes "{")) _
     (then_agrees (keyword (codes "attributes")) _ (keyword_agrees (codes "attributes")) (λ _. mark_agrees (codes "{")))
     (λ _. mark_agrees (codes "}"))
 
 module _ (type : Production TextToken (Node TypeTree)) (a : Agrees type) where
-  tags_agree : Agrees (tags_clause type)
-  tags_agree = then_agrees (keyword (codes "tags")) _ (keyword_agrees (codes "tags")) (λ tags. then_agrees type _ a (λ ty. gives_agrees (start_of tags, ty)))
+  pub tags_agree : Agrees (tags_clause type)
+  tags_agree = then_agrees (keyword (codes "tags")) _ (keyword_agrees (codes "tags")) (λ tags. then_agrees type _ a (λ ty. gives_agrees (tags.loc, ty)))
 
-  standard_agrees : Agrees (standard_entity type)
+  pub standard_agrees : Agrees (standard_entity type)
   standard_agrees =
       then_agrees (keyword (codes "entity")) _ (keyword_agrees (codes "entity")) (λ entity.
       then_agrees idents _ (commas_agree ident ident_agrees) (λ ns.
@@ -160,29 +164,29 @@ module _ (type : Production TextToken (Node TypeTree)) (a : Agrees type) where
       then_agrees (maybe (tags_clause type)) _ (maybe_agrees (tags_clause type) tags_agree) (λ tags.
       then_agrees (mark (codes ";")) _ (mark_agrees (codes ";")) (λ semicolon. gives_agrees _))))))
 
-  context_agrees : Agrees (context_type type)
+  pub context_agrees : Agrees (context_type type)
   context_agrees =
-      either_agrees (path >>= λ p. gives (placed (Named p) (start_of p) (end_of p))) (record_type type >>= λ r. gives (placed (Shape r) (start_of r) (end_of r)))
-      (then_agrees path _ path_agrees (λ p. gives_agrees (placed (Named p) (start_of p) (end_of p))))
-      (then_agrees (record_type type) _ (record_agrees type a) (λ r. gives_agrees (placed (Shape r) (start_of r) (end_of r))))
+      either_agrees (path >>= λ p. gives (stands (Named p) p.loc)) (record_type type >>= λ r. gives (stands (Shape r) r.loc))
+      (then_agrees path _ path_agrees (λ p. gives_agrees (stands (Named p) p.loc)))
+      (then_agrees (record_type type) _ (record_agrees type a) (λ r. gives_agrees (stands (Shape r) r.loc)))
 
-  app_agrees : Agrees (app_decl type)
+  pub app_agrees : Agrees (app_decl type)
   app_agrees =
       either_agrees _ _
       (then_agrees pr _ pr_agrees (λ which.
       then_agrees (mark (codes ":")) _ (mark_agrees (codes ":")) (λ _.
-      then_agrees types _ types_agree (λ ts. gives_agrees (placed (Types which ts.node) (start_of which) (end_of ts))))))
+      then_agrees types _ types_agree (λ ts. gives_agrees (placed (Types which ts.node) which.loc ts.loc)))))
       (then_agrees (keyword (codes "context")) _ (keyword_agrees (codes "context")) (λ context.
       then_agrees (mark (codes ":")) _ (mark_agrees (codes ":")) (λ _.
-      then_agrees (context_type type) _ context_agrees (λ c. gives_agrees (placed (Context c.node) (start_of context) (end_of c))))))
+      then_agrees (context_type type) _ context_agrees (λ c. gives_agrees (placed (Context c.node) context.loc c.loc)))))
 
-  applies_agree : Agrees (applies_to type)
+  pub applies_agree : Agrees (applies_to type)
   applies_agree =
       then_agrees (keyword (codes "appliesTo")) _ (keyword_agrees (codes "appliesTo")) (λ _.
       bracketed_agrees (codes "{") (codes "}") (trailing (mark (codes ",")) (app_decl type))
       (trailing_agrees (mark (codes ",")) (app_decl type) (mark_agrees (codes ",")) app_agrees))
 
-  action_agrees : Agrees (action_decl type)
+  pub action_agrees : Agrees (action_decl type)
   action_agrees =
       then_agrees (keyword (codes "action")) _ (keyword_agrees (codes "action")) (λ action.
       then_agrees names _ (commas_agree name name_agrees) (λ ns.
@@ -195,7 +199,7 @@ module _ (type : Production TextToken (Node TypeTree)) (a : Agrees type) where
       then_agrees (optional attributes_tail) _ (optional_agrees attributes_tail tail_agrees) (λ _.
       then_agrees (mark (codes ";")) _ (mark_agrees (codes ";")) (λ semicolon. gives_agrees _))))))
 
-  type_decl_agrees : Agrees (type_decl type)
+  pub type_decl_agrees : Agrees (type_decl type)
   type_decl_agrees =
       then_agrees (keyword (codes "type")) _ (keyword_agrees (codes "type")) (λ keyword_type.
       then_agrees ident _ ident_agrees (λ n.
@@ -203,7 +207,7 @@ module _ (type : Production TextToken (Node TypeTree)) (a : Agrees type) where
       then_agrees type _ a (λ ty.
       then_agrees (mark (codes ";")) _ (mark_agrees (codes ";")) (λ semicolon. gives_agrees _)))))
 
-  decl_agrees : Agrees (decl type)
+  pub decl_agrees : Agrees (decl type)
   decl_agrees =
       either_agrees (standard_entity type ∣ enum_entity ∣ action_decl type) (type_decl type)
       (either_agrees (standard_entity type ∣ enum_entity) (action_decl type)
@@ -211,7 +215,7 @@ module _ (type : Production TextToken (Node TypeTree)) (a : Agrees type) where
       action_agrees)
       type_decl_agrees
 
-  namespace_agrees : Agrees (namespace type)
+  pub namespace_agrees : Agrees (namespace type)
   namespace_agrees =
       then_agrees (keyword (codes "namespace")) _ (keyword_agrees (codes "namespace")) (λ keyword_namespace.
       then_agrees path _ path_agrees (λ p.
@@ -219,13 +223,13 @@ module _ (type : Production TextToken (Node TypeTree)) (a : Agrees type) where
       (bracketed_agrees (codes "{") (codes "}") (many (annotated (decl type))) (many_agrees (annotated (decl type)) (annotated_agrees (decl type) decl_agrees)))
       (λ ds. gives_agrees _)))
 
-  item_agrees : (annotations : Annotations) → Agrees (item_behind type annotations)
+  pub item_agrees : (annotations : ByKey) → Agrees (item_behind type annotations)
   item_agrees annotations =
       either_agrees _ (decl type >>= λ d. gives (alone annotations d))
       (then_agrees (namespace type) _ namespace_agrees (λ n. gives_agrees _))
       (then_agrees (decl type) _ decl_agrees (λ d. gives_agrees (alone annotations d)))
 
-  schema_agrees : Agrees (schema type)
+  pub schema_agrees : Agrees (schema type)
   schema_agrees = many_agrees (annots >>= item_behind type) (then_agrees annots (item_behind type) annots_agree item_agrees)
 
 pub begins_as_completable : (n : ℕ) (ts : List TextToken) → (schema (type_upto n)).begins ts ↔ Completable (schema (type_upto n)) ts

@@ -1,14 +1,16 @@
 -- SPDX-License-Identifier: Apache-2.0
 -- The grammar of the human schema syntax: one production for one line of it.
-use Rattle.std.specs.Prelude.{ℕ, zero, suc, ◌+◌, ◌-◌, ◌≤◌, Bool, true, false, not, ◌&&◌, ◌||◌, if◌then◌else◌, List, [], ◌∷◌, length, map, fold, take, drop, codes, bytes_eq, Option, Some, None, option_map}
+use Rattle.std.specs.Prelude.{ℕ, zero, suc, ◌+◌, ◌-◌, ◌≤◌, Bool, true, false, not, ◌&&◌, ◌||◌, if◌then◌else◌, List, [], ◌∷◌, length, map, fold, take, drop, codes, bytes_eq, Option, Some, None, option_map, nat_eq}
+use Rattle.std.specs.List.{starts_with, ends_with}
+use Rattle.std.specs.Option.{option_and_then}
 use Rattle.std.specs.Result.{result_ok}
-use Rattle.cedar_text.specs.Words.{is_reserved_word, has_word}
+use Rattle.cedar_text.specs.Words.{is_word, is_id, has_word}
 use Rattle.cedar_text.specs.Unescaping.{unescaped}
 use Rattle.cedar_tokens.specs.Lexemes.{TextToken}
 use Rattle.cedar_tokens.specs.declared.token.TokenKind.{TokenKind}
 use Rattle.cedar_tokens.specs.declared.token.TokenKind.TheVariants as kind
 use Rattle.cedar_grammar.specs.Productions.{Production, class, gives, ◌>>=◌, ◌>>◌, ◌∣◌, many, each, optional, maybe, separated, trailing}
-use Rattle.cedar_grammar.specs.Trees.{Node, placed, start_of, end_of, Text, Path, Annotation, Annotations, Annotated, TypeTree, Set, Ident, Record, Attrs, no_attrs, AttrDecl, attrs_of, Standard, Enum, PR, Principal, Resource, ContextDecl, Named, Shape, AppDecl, Types, Context, QualName, Declaration, Entity, Action, Common, Namespace, Schema}
+use Rattle.cedar_grammar.specs.Trees.{Node, Place, between, empty_before, stands, placed, Text, Path, Annotation, Annotations, ByKey, by_key, Annotated, TypeTree, Set, Ident, Record, Attrs, no_attrs, AttrDecl, attrs_of, Standard, Enum, PR, Principal, Resource, ContextDecl, Named, Shape, AppDecl, Types, Context, QualName, Declaration, Entity, Action, Common, Namespace, Schema}
 
 -- the kinds of tokens
 abbrev pub is_word_kind : TokenKind → Bool
@@ -25,7 +27,7 @@ is_punct_kind _ = false
 
 -- x with the place of the token
 abbrev pub at_token : {A : Type 0} → TextToken → A → Node A
-at_token t x = placed x t.start t.end
+at_token t x = stands x t.loc
 
 -- the text of a token that passes the test
 abbrev pub text_where : (TextToken → Bool) → TextToken → Option (Node Text)
@@ -45,15 +47,23 @@ is_mark_token s t = is_punct_kind t.kind && bytes_eq t.text s
 
 -- a word that isn't one of the nine reserved words
 abbrev pub is_ident_token : TextToken → Bool
-is_ident_token t = is_word_kind t.kind && not (is_reserved_word t.text)
+is_ident_token t = is_word_kind t.kind && is_id t.text
+
+-- whether a text begins with a quote and ends with another
+abbrev pub is_quoted : List ℕ → Bool
+is_quoted s = starts_with nat_eq s (codes "\"") && ends_with nat_eq (drop 1 s) (codes "\"")
 
 -- what stands between the quotes of a literal
-abbrev pub literal_body : List ℕ → List ℕ
-literal_body s = take (length s - 2) (drop 1 s)
+abbrev pub literal_body : List ℕ → Option (List ℕ)
+literal_body s = if is_quoted s then Some (take (length s - 2) (drop 1 s)) else None
+
+-- the text that a body stands for, if its escapes are good
+abbrev pub text_of_body : List ℕ → Option (List ℕ)
+text_of_body body = result_ok (unescaped body)
 
 -- what a string literal stands for, if its escapes are good
 abbrev pub literal_value : TextToken → Option (Node Text)
-literal_value t = if is_str_kind t.kind then option_map (at_token t) (result_ok (unescaped (literal_body t.text))) else None
+literal_value t = if is_str_kind t.kind then option_map (at_token t) (option_and_then text_of_body (literal_body t.text)) else None
 
 -- a quoted word of the grammar
 abbrev pub keyword : List ℕ → Production TextToken (Node Text)
@@ -89,7 +99,7 @@ bracketed opening closing R = do
   before ← mark opening
   x ← R
   behind ← mark closing
-  gives (placed x (start_of before) (end_of behind))
+  gives (placed x before.loc behind.loc)
 
 -- the last of n and the others
 abbrev pub last_of : Node Text → List (Node Text) → Node Text
@@ -98,7 +108,7 @@ last_of n (m ∷ others) = last_of m others
 
 -- the path of these identifiers
 abbrev pub path_of : Node Text → List (Node Text) → Path
-path_of n others = placed (n.node ∷ map (λ m. m.node) others) (start_of n) (end_of (last_of n others))
+path_of n others = placed (n.node ∷ map (λ m. m.node) others) n.loc (last_of n others).loc
 
 -- Path = Ident {'::' Ident}
 abbrev pub path : Production TextToken Path
@@ -118,7 +128,7 @@ names = commas name
 -- R | '[' [R {',' R}] ']', where the value of R has a place
 abbrev pub one_or_list : {A : Type 0} → Production TextToken (Node A) → Production TextToken (Node (List (Node A)))
 one_or_list R =
-    (R >>= λ x. gives (placed (x ∷ []) (start_of x) (end_of x)))
+    (R >>= λ x. gives (stands (x ∷ []) x.loc))
     ∣ bracketed (codes "[") (codes "]") (commas R ∣ gives [])
 
 -- Types = Path | '[' [Path {',' Path}] ']'
@@ -126,8 +136,8 @@ abbrev pub types : Production TextToken (Node (List Path))
 types = one_or_list path
 
 -- an id that ends a reference, which starts here, behind a path or alone
-abbrev pub qualified : Option Path → Node Text → ℕ → Node QualName
-qualified p id start = placed (record { path = p; eid = id.node }) start (end_of id)
+abbrev pub qualified : Option Path → Node Text → Place → Node QualName
+qualified p id start = placed (record { path = p; eid = id.node }) start id.loc
 
 -- Ref = Path '::' Str | Name
 abbrev pub ref : Production TextToken (Node QualName)
@@ -136,17 +146,17 @@ ref =
       p ← path
       mark (codes "::")
       id ← str
-      gives (qualified (Some p) id (start_of p)))
-    ∣ (name >>= λ id. gives (qualified None id (start_of id)))
+      gives (qualified (Some p) id p.loc))
+    ∣ (name >>= λ id. gives (qualified None id id.loc))
 
 -- Refs = Ref | '[' [Ref {',' Ref}] ']'
 abbrev pub refs : Production TextToken (Node (List (Node QualName)))
 refs = one_or_list ref
 
 -- the annotation of this key, which begins here; its value is empty where none stands
-abbrev pub annotation_of : ℕ → Node Text → Option (Node (Node Text)) → Node Annotation
-annotation_of start key None = placed (record { key = key.node; value = [] }) start (end_of key)
-annotation_of start key (Some value) = placed (record { key = key.node; value = value.node.node }) start (end_of value)
+abbrev pub annotation_of : Place → Node Text → Option (Node (Node Text)) → Node Annotation
+annotation_of start key None = placed (record { key = key.node; value = [] }) start key.loc
+annotation_of start key (Some value) = placed (record { key = key.node; value = value.node.node }) start value.loc
 
 -- the keys of annotations
 abbrev pub keys_of : Annotations → List Text
@@ -154,7 +164,7 @@ keys_of before = map (λ a. a.node.key) before
 
 -- a word that is no key of these annotations
 abbrev pub is_new_key : Annotations → TextToken → Bool
-is_new_key before t = is_word_kind t.kind && not (has_word (keys_of before) t.text)
+is_new_key before t = is_word_kind t.kind && (is_word t.text && not (has_word (keys_of before) t.text))
 
 -- '@' Word ['(' Str ')'], where the word is no key of the annotations before it
 abbrev pub annotation : Annotations → Production TextToken (Node Annotation)
@@ -162,11 +172,11 @@ annotation before = do
   at ← mark (codes "@")
   key ← class (text_where (is_new_key before))
   value ← maybe (bracketed (codes "(") (codes ")") str)
-  gives (annotation_of (start_of at) key value)
+  gives (annotation_of at.loc key value)
 
 -- Annots = {'@' Word ['(' Str ')']}, where no two keys are equal
-abbrev pub annots : Production TextToken Annotations
-annots = each annotation
+abbrev pub annots : Production TextToken ByKey
+annots = each annotation >>= λ written. gives (by_key written)
 
 -- Annots R
 abbrev pub annotated : {A : Type 0} → Production TextToken A → Production TextToken (Annotated A)
@@ -177,7 +187,7 @@ annotated R = do
 
 -- an attribute of this name; a question mark says that it isn't required
 abbrev pub attr_of : Node Text → Bool → Node TypeTree → Node AttrDecl
-attr_of n question ty = placed (record { name = n; required = not question; ty = ty }) (start_of n) (end_of ty)
+attr_of n question ty = placed (record { name = n; required = not question; ty = ty }) n.loc ty.loc
 
 -- Attr = Annots Name ['?'] ':' Type
 abbrev pub attr_decl : Production TextToken (Node TypeTree) → Production TextToken (Annotated (Node AttrDecl))
@@ -198,15 +208,15 @@ abbrev pub set_type : Production TextToken (Node TypeTree) → Production TextTo
 set_type type = do
   set ← keyword (codes "Set")
   element ← bracketed (codes "<") (codes ">") type
-  gives (placed (Set element.node.node element.node.loc) (start_of set) (end_of element))
+  gives (placed (Set element.node.node element.node.loc) set.loc element.loc)
 
 -- a record as a type at its own place
 abbrev pub as_record : Node Attrs → Node TypeTree
-as_record r = placed (Record r.node) (start_of r) (end_of r)
+as_record r = stands (Record r.node) r.loc
 
 -- a name as a type at its own place
 abbrev pub as_name : Path → Node TypeTree
-as_name p = placed (Ident p) (start_of p) (end_of p)
+as_name p = stands (Ident p) p.loc
 
 -- Type = 'Set' '<' Type '>' | Record | Path, nested at most n times
 abbrev pub type_upto : ℕ → Production TextToken (Node TypeTree)
@@ -216,21 +226,21 @@ type_upto (suc n) =
     ∣ (record_type (type_upto n) >>= λ r. gives (as_record r))
     ∣ (path >>= λ p. gives (as_name p))
 
--- 'tags' Type: where it starts, and the type
-abbrev pub tags_clause : Production TextToken (Node TypeTree) → Production TextToken (ℕ × Node TypeTree)
+-- 'tags' Type: the place of the word, and the type
+abbrev pub tags_clause : Production TextToken (Node TypeTree) → Production TextToken (Place × Node TypeTree)
 tags_clause type = do
   tags ← keyword (codes "tags")
   ty ← type
-  gives (start_of tags, ty)
+  gives (tags.loc, ty)
 
--- where the token starts that follows the record of an entity type: `tags`, or else the `;` that starts here
-abbrev pub behind_record : Option (ℕ × Node TypeTree) → ℕ → ℕ
+-- the place of the token that follows the record of an entity type: `tags`, or else this `;`
+abbrev pub behind_record : Option (Place × Node TypeTree) → Place → Place
 behind_record None semicolon = semicolon
 behind_record (Some tags) semicolon = tags.0
 
--- the attributes, none where no record stands; that is an empty one at this place
-abbrev pub shape_at : Option (Node Attrs) → ℕ → Node Attrs
-shape_at None place = placed no_attrs place place
+-- the attributes; where no record stands, none, at the empty place before what stands here
+abbrev pub shape_at : Option (Node Attrs) → Place → Node Attrs
+shape_at None place = stands no_attrs (empty_before place)
 shape_at (Some shape) place = shape
 
 -- 'entity' Idents ['in' Types] [['='] Record] ['tags' Type] ';'
@@ -245,9 +255,9 @@ standard_entity type = do
   gives (placed (Entity (Standard (record {
     names = ns;
     member_of_types = parents;
-    attrs = shape_at shape (behind_record tags (start_of semicolon));
+    attrs = shape_at shape (behind_record tags semicolon.loc);
     tags = option_map (λ p. p.1) tags;
-  }))) (start_of entity) (end_of semicolon))
+  }))) entity.loc semicolon.loc)
 
 -- 'entity' Idents 'enum' '[' Str {',' Str} ']' ';'
 abbrev pub enum_entity : Production TextToken (Node Declaration)
@@ -257,19 +267,19 @@ enum_entity = do
   keyword (codes "enum")
   choices ← bracketed (codes "[") (codes "]") (commas str)
   semicolon ← mark (codes ";")
-  gives (placed (Entity (Enum (record { names = ns; choices = choices.node }))) (start_of entity) (end_of semicolon))
+  gives (placed (Entity (Enum (record { names = ns; choices = choices.node }))) entity.loc semicolon.loc)
 
 -- 'principal' or 'resource'
 abbrev pub pr : Production TextToken (Node PR)
 pr =
-    (keyword (codes "principal") >>= λ k. gives (placed Principal (start_of k) (end_of k)))
-    ∣ (keyword (codes "resource") >>= λ k. gives (placed Resource (start_of k) (end_of k)))
+    (keyword (codes "principal") >>= λ k. gives (stands Principal k.loc))
+    ∣ (keyword (codes "resource") >>= λ k. gives (stands Resource k.loc))
 
 -- Path | Record
 abbrev pub context_type : Production TextToken (Node TypeTree) → Production TextToken (Node ContextDecl)
 context_type type =
-    (path >>= λ p. gives (placed (Named p) (start_of p) (end_of p)))
-    ∣ (record_type type >>= λ r. gives (placed (Shape r) (start_of r) (end_of r)))
+    (path >>= λ p. gives (stands (Named p) p.loc))
+    ∣ (record_type type >>= λ r. gives (stands (Shape r) r.loc))
 
 -- App = ('principal' | 'resource') ':' Types | 'context' ':' (Path | Record)
 abbrev pub app_decl : Production TextToken (Node TypeTree) → Production TextToken (Node AppDecl)
@@ -278,12 +288,12 @@ app_decl type =
       which ← pr
       mark (codes ":")
       ts ← types
-      gives (placed (Types which ts.node) (start_of which) (end_of ts)))
+      gives (placed (Types which ts.node) which.loc ts.loc))
     ∣ (do
       context ← keyword (codes "context")
       mark (codes ":")
       c ← context_type type
-      gives (placed (Context c.node) (start_of context) (end_of c)))
+      gives (placed (Context c.node) context.loc c.loc))
 
 -- 'appliesTo' '{' App {',' App} [','] '}'
 abbrev pub applies_to : Production TextToken (Node TypeTree) → Production TextToken (Node (List (Node AppDecl)))
@@ -302,7 +312,7 @@ action_decl type = do
   applies ← maybe (applies_to type)
   optional attributes_tail
   semicolon ← mark (codes ";")
-  gives (placed (Action (record { names = ns; parents = parents; app_decls = applies })) (start_of action) (end_of semicolon))
+  gives (placed (Action (record { names = ns; parents = parents; app_decls = applies })) action.loc semicolon.loc)
 
 -- 'type' Ident '=' Type ';'
 abbrev pub type_decl : Production TextToken (Node TypeTree) → Production TextToken (Node Declaration)
@@ -312,7 +322,7 @@ type_decl type = do
   mark (codes "=")
   ty ← type
   semicolon ← mark (codes ";")
-  gives (placed (Common (record { name = n; def = ty })) (start_of keyword_type) (end_of semicolon))
+  gives (placed (Common (record { name = n; def = ty })) keyword_type.loc semicolon.loc)
 
 -- Decl: each of the four kinds of declarations
 abbrev pub decl : Production TextToken (Node TypeTree) → Production TextToken (Node Declaration)
@@ -324,17 +334,17 @@ namespace type = do
   keyword_namespace ← keyword (codes "namespace")
   p ← path
   ds ← bracketed (codes "{") (codes "}") (many (annotated (decl type)))
-  gives (record { name = Some p; decls = ds.node; loc = Some (start_of keyword_namespace, end_of ds) })
+  gives (record { name = Some p; decls = ds.node; loc = Some (between keyword_namespace.loc ds.loc) })
 
 -- the declaration in a namespace of its own, without name and annotations
-abbrev pub alone : Annotations → Node Declaration → Annotated Namespace
+abbrev pub alone : ByKey → Node Declaration → Annotated Namespace
 alone annotations d = record {
   item = record { name = None; decls = record { item = d; annotations = annotations } ∷ []; loc = None };
   annotations = [];
 }
 
 -- Item = 'namespace' Path '{' {Annots Decl} '}' | Decl, behind these annotations
-abbrev pub item_behind : Production TextToken (Node TypeTree) → Annotations → Production TextToken (Annotated Namespace)
+abbrev pub item_behind : Production TextToken (Node TypeTree) → ByKey → Production TextToken (Annotated Namespace)
 item_behind type annotations =
     (namespace type >>= λ n. gives (record { item = n; annotations = annotations }))
     ∣ (decl type >>= λ d. gives (alone annotations d))

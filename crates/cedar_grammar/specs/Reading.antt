@@ -2,7 +2,7 @@
 -- How a parser goes through the tokens of a schema: each choice is by the next token alone.
 use Rattle.std.specs.Prelude.{ℕ, zero, suc, Bool, true, false, List, [], ◌∷◌, ◌++◌, length, codes, Option, Some, None, option_map, Result, Ok, Err}
 use Rattle.cedar_tokens.specs.Lexemes.{TextToken}
-use Rattle.cedar_grammar.specs.Trees.{Node, placed, start_of, end_of, Text, Path, Annotation, Annotations, Annotated, TypeTree, Set, Attrs, no_attrs, AttrDecl, attrs_of, Standard, Enum, PR, Principal, Resource, Named, Shape, AppDecl, Types, Context, QualName, Declaration, Entity, Action, Common, Namespace, Schema}
+use Rattle.cedar_grammar.specs.Trees.{Node, Place, between, stands, placed, Text, Path, Annotation, Annotations, ByKey, by_key, Annotated, TypeTree, Set, Attrs, no_attrs, AttrDecl, attrs_of, Standard, Enum, PR, Principal, Resource, Named, Shape, AppDecl, Types, Context, QualName, Declaration, Entity, Action, Common, Namespace, Schema}
 use Rattle.cedar_grammar.specs.Grammar.{text_where, is_word_token, is_keyword, is_mark_token, is_ident_token, literal_value, path_of, qualified, annotation_of, is_new_key, attr_of, as_record, as_name, behind_record, shape_at, alone}
 
 -- a reader gives a value and the tokens that are left, or how many are left where it finds a fault
@@ -97,12 +97,12 @@ braced_at f = looped (brace_round f)
 -- what follows `[`: members with commas between, or none, and `]`
 unfoldable pub brackets_behind : {A : Type 0} → Reader A → Node Text → Reader (Node (List A))
 brackets_behind f opening =
-    on_next (a_mark (codes "]")) (λ closing. done (placed [] (start_of opening) (end_of closing)))
-    (commas_at f >>= λ xs. expect (a_mark (codes "]")) >>= λ closing. done (placed xs (start_of opening) (end_of closing)))
+    on_next (a_mark (codes "]")) (λ closing. done (placed [] opening.loc closing.loc))
+    (commas_at f >>= λ xs. expect (a_mark (codes "]")) >>= λ closing. done (placed xs opening.loc closing.loc))
 
 -- a list in brackets, or one member
 unfoldable pub one_or_list_at : {A : Type 0} → Reader (Node A) → Reader (Node (List (Node A)))
-one_or_list_at f = on_next (a_mark (codes "[")) (brackets_behind f) (f >>= λ x. done (placed (x ∷ []) (start_of x) (end_of x)))
+one_or_list_at f = on_next (a_mark (codes "[")) (brackets_behind f) (f >>= λ x. done (stands (x ∷ []) x.loc))
 
 -- a round over what follows an identifier of a path: `::`, an identifier and the next round
 abbrev pub path_round : Reader (List (Node Text)) → Reader (List (Node Text))
@@ -127,17 +127,17 @@ id_round again =
 -- what follows an identifier that begins a reference: `::` and the rest, or nothing where it is a name alone
 unfoldable pub ref_behind : Node Text → Reader (Node QualName)
 ref_behind n =
-    on_next (a_mark (codes "::")) (λ _. looped id_round >>= λ r. done (qualified (Some (path_of n r.0)) r.1 (start_of n)))
-    (done (qualified None n (start_of n)))
+    on_next (a_mark (codes "::")) (λ _. looped id_round >>= λ r. done (qualified (Some (path_of n r.0)) r.1 n.loc))
+    (done (qualified None n n.loc))
 
 -- a reference; a literal and a reserved word are names alone
 unfoldable pub ref_at : Reader (Node QualName)
-ref_at = on_next an_ident ref_behind (name_at >>= λ id. done (qualified None id (start_of id)))
+ref_at = on_next an_ident ref_behind (name_at >>= λ id. done (qualified None id id.loc))
 
 -- what follows the key of an annotation
 unfoldable pub value_at : Reader (Option (Node (Node Text)))
 value_at =
-    on_next (a_mark (codes "(")) (λ opening. expect literal_value >>= λ value. expect (a_mark (codes ")")) >>= λ closing. done (Some (placed value (start_of opening) (end_of closing))))
+    on_next (a_mark (codes "(")) (λ opening. expect literal_value >>= λ value. expect (a_mark (codes ")")) >>= λ closing. done (Some (placed value opening.loc closing.loc)))
     (done None)
 
 -- what follows the `@` of an annotation behind these
@@ -145,15 +145,15 @@ unfoldable pub annotation_behind : Annotations → Node Text → Reader (Node An
 annotation_behind before at = do
   key ← expect (text_where (is_new_key before))
   value ← value_at
-  done (annotation_of (start_of at) key value)
+  done (annotation_of at.loc key value)
 
--- the annotations behind these, fewer than n, with these
-unfoldable pub annots_from : ℕ → Annotations → Reader Annotations
+-- what the annotations behind these, fewer than n, say together with these
+unfoldable pub annots_from : ℕ → Annotations → Reader ByKey
 annots_from zero before ts = Err (length ts)
 annots_from (suc n) before ts =
-    on_next (a_mark (codes "@")) (λ at. annotation_behind before at >>= λ a. annots_from n (before ++ a ∷ [])) (done before) ts
+    on_next (a_mark (codes "@")) (λ at. annotation_behind before at >>= λ a. annots_from n (before ++ a ∷ [])) (done (by_key before)) ts
 
-unfoldable pub annots_at : Reader Annotations
+unfoldable pub annots_at : Reader ByKey
 annots_at ts = annots_from (suc (length ts)) [] ts
 
 unfoldable pub annotated_at : {A : Type 0} → Reader A → Reader (Annotated A)
@@ -177,14 +177,14 @@ attr_at type = annotated_at do
 -- what follows the `{` of a record
 unfoldable pub record_behind : Reader (Node TypeTree) → Node Text → Reader (Node Attrs)
 record_behind type opening =
-    on_next (a_mark (codes "}")) (λ closing. done (placed no_attrs (start_of opening) (end_of closing)))
-    (braced_at (attr_at type) >>= λ r. done (placed (attrs_of r.0) (start_of opening) (end_of r.1)))
+    on_next (a_mark (codes "}")) (λ closing. done (placed no_attrs opening.loc closing.loc))
+    (braced_at (attr_at type) >>= λ r. done (placed (attrs_of r.0) opening.loc r.1.loc))
 
 -- what follows `Set`: `<`, a type and `>`, or the rest of a path
 unfoldable pub set_behind : Reader (Node TypeTree) → Node Text → Reader (Node TypeTree)
 set_behind type set =
     on_next (a_mark (codes "<"))
-    (λ _. type >>= λ element. expect (a_mark (codes ">")) >>= λ closing. done (placed (Set element.node element.loc) (start_of set) (end_of closing)))
+    (λ _. type >>= λ element. expect (a_mark (codes ">")) >>= λ closing. done (placed (Set element.node element.loc) set.loc closing.loc))
     (path_behind set >>= λ p. done (as_name p))
 
 -- a type, where n is above the number of tokens
@@ -201,8 +201,8 @@ shape_reader type =
     on_next (a_mark (codes "=")) (λ _. expect (a_mark (codes "{")) >>= λ opening. record_behind type opening >>= λ r. done (Some r))
     (on_next (a_mark (codes "{")) (λ opening. record_behind type opening >>= λ r. done (Some r)) (done None))
 
-unfoldable pub tags_at : Reader (Node TypeTree) → Reader (Option (ℕ × Node TypeTree))
-tags_at type = on_next (a_keyword (codes "tags")) (λ tags. type >>= λ ty. done (Some (start_of tags, ty))) (done None)
+unfoldable pub tags_at : Reader (Node TypeTree) → Reader (Option (Place × Node TypeTree))
+tags_at type = on_next (a_keyword (codes "tags")) (λ tags. type >>= λ ty. done (Some (tags.loc, ty))) (done None)
 
 -- what follows `in`, if it stands next
 unfoldable pub above_at : {A : Type 0} → Reader (Node (List A)) → Reader (List A)
@@ -218,9 +218,9 @@ standard_behind type entity ns = do
   done (placed (Entity (Standard (record {
     names = ns;
     member_of_types = parents;
-    attrs = shape_at shape (behind_record tags (start_of semicolon));
+    attrs = shape_at shape (behind_record tags semicolon.loc);
     tags = option_map (λ p. p.1) tags;
-  }))) (start_of entity) (end_of semicolon))
+  }))) entity.loc semicolon.loc)
 
 -- what follows `enum`
 unfoldable pub enum_behind : Node Text → List (Node Text) → Reader (Node Declaration)
@@ -229,7 +229,7 @@ enum_behind entity ns = do
   choices ← commas_at (expect literal_value)
   expect (a_mark (codes "]"))
   semicolon ← expect (a_mark (codes ";"))
-  done (placed (Entity (Enum (record { names = ns; choices = choices }))) (start_of entity) (end_of semicolon))
+  done (placed (Entity (Enum (record { names = ns; choices = choices }))) entity.loc semicolon.loc)
 
 -- what follows `entity`
 unfoldable pub entity_behind : Reader (Node TypeTree) → Node Text → Reader (Node Declaration)
@@ -242,26 +242,26 @@ unfoldable pub scope_behind : Node PR → Reader (Node AppDecl)
 scope_behind which = do
   expect (a_mark (codes ":"))
   ts ← types_at
-  done (placed (Types which ts.node) (start_of which) (end_of ts))
+  done (placed (Types which ts.node) which.loc ts.loc)
 
 -- what follows `context`
 unfoldable pub context_behind : Reader (Node TypeTree) → Node Text → Reader (Node AppDecl)
 context_behind type context =
     expect (a_mark (codes ":")) >>
-    on_next (a_mark (codes "{")) (λ opening. record_behind type opening >>= λ r. done (placed (Context (Shape r)) (start_of context) (end_of r)))
-    (path_at >>= λ p. done (placed (Context (Named p)) (start_of context) (end_of p)))
+    on_next (a_mark (codes "{")) (λ opening. record_behind type opening >>= λ r. done (placed (Context (Shape r)) context.loc r.loc))
+    (path_at >>= λ p. done (placed (Context (Named p)) context.loc p.loc))
 
 unfoldable pub app_at : Reader (Node TypeTree) → Reader (Node AppDecl)
 app_at type =
-    on_next (a_keyword (codes "principal")) (λ k. scope_behind (placed Principal (start_of k) (end_of k)))
-    (on_next (a_keyword (codes "resource")) (λ k. scope_behind (placed Resource (start_of k) (end_of k)))
+    on_next (a_keyword (codes "principal")) (λ k. scope_behind (stands Principal k.loc))
+    (on_next (a_keyword (codes "resource")) (λ k. scope_behind (stands Resource k.loc))
     (expect (a_keyword (codes "context")) >>= context_behind type))
 
 -- what follows `appliesTo`, if it stands next
 unfoldable pub applies_at : Reader (Node TypeTree) → Reader (Option (Node (List (Node AppDecl))))
 applies_at type =
     on_next (a_keyword (codes "appliesTo"))
-    (λ _. expect (a_mark (codes "{")) >>= λ opening. braced_at (app_at type) >>= λ r. done (Some (placed r.0 (start_of opening) (end_of r.1))))
+    (λ _. expect (a_mark (codes "{")) >>= λ opening. braced_at (app_at type) >>= λ r. done (Some (placed r.0 opening.loc r.1.loc)))
     (done None)
 
 -- `attributes {}` or nothing
@@ -276,7 +276,7 @@ action_behind type action = do
   applies ← applies_at type
   tail_at
   semicolon ← expect (a_mark (codes ";"))
-  done (placed (Action (record { names = ns; parents = parents; app_decls = applies })) (start_of action) (end_of semicolon))
+  done (placed (Action (record { names = ns; parents = parents; app_decls = applies })) action.loc semicolon.loc)
 
 -- what follows `type`
 unfoldable pub type_behind : Reader (Node TypeTree) → Node Text → Reader (Node Declaration)
@@ -285,7 +285,7 @@ type_behind type keyword_type = do
   expect (a_mark (codes "="))
   ty ← type
   semicolon ← expect (a_mark (codes ";"))
-  done (placed (Common (record { name = n; def = ty })) (start_of keyword_type) (end_of semicolon))
+  done (placed (Common (record { name = n; def = ty })) keyword_type.loc semicolon.loc)
 
 unfoldable pub decl_at : Reader (Node TypeTree) → Reader (Node Declaration)
 decl_at type =
@@ -305,10 +305,10 @@ namespace_behind type keyword_namespace = do
   p ← path_at
   expect (a_mark (codes "{"))
   r ← looped (decl_round type)
-  done (record { name = Some p; decls = r.0; loc = Some (start_of keyword_namespace, end_of r.1) })
+  done (record { name = Some p; decls = r.0; loc = Some (between keyword_namespace.loc r.1.loc) })
 
 -- an item behind these annotations
-unfoldable pub item_at : Reader (Node TypeTree) → Annotations → Reader (Annotated Namespace)
+unfoldable pub item_at : Reader (Node TypeTree) → ByKey → Reader (Annotated Namespace)
 item_at type annotations =
     on_next (a_keyword (codes "namespace")) (λ k. namespace_behind type k >>= λ n. done (record { item = n; annotations = annotations }))
     (decl_at type >>= λ d. done (alone annotations d))

@@ -1,27 +1,30 @@
 -- SPDX-License-Identifier: Apache-2.0
 -- What a schema says, with the places of its pieces.
-use Rattle.std.specs.Prelude.{ℕ, ◌+◌, max, Bool, List, [], ◌∷◌, Option, option_to_list, flat_map}
+use Rattle.std.specs.Prelude.{ℕ, ◌+◌, max, Bool, List, [], ◌∷◌, map, Option, option_to_list, flat_map}
+use Rattle.cedar_data.specs.Maps.{map_of}
+use Rattle.cedar_names.specs.Order.{word_cmp}
+use Rattle.cedar_text.specs.declared.location.Loc.{Loc}
+pub use Rattle.cedar_text.specs.declared.node.Node.{Node}
 
--- the byte offsets at which a piece starts and ends
+-- the byte offsets at which a piece starts and ends, and the text in which it stands
 abbrev pub Place : Type 0
-Place = ℕ × ℕ
+Place = Loc
 
--- something that stands at a place
-pub record Node (A : Type 0) : Type 0 where
-  pub node : A
-  pub loc : Place
+-- from the start of a piece to the end of another
+abbrev pub between : Place → Place → Place
+between first last = record { start = first.start; end = last.end; src = first.src }
 
--- x, which stands from here to there
-abbrev pub placed : {A : Type 0} → A → ℕ → ℕ → Node A
-placed x start end = record { node = x; loc = (start, end) }
+-- the empty place where a piece starts
+abbrev pub empty_before : Place → Place
+empty_before piece = record { start = piece.start; end = piece.start; src = piece.src }
 
--- where a piece starts
-abbrev pub start_of : {A : Type 0} → Node A → ℕ
-start_of n = n.loc.0
+-- x, which stands at a place
+abbrev pub stands : {A : Type 0} → A → Place → Node A
+stands x place = record { node = x; loc = place }
 
--- where it ends
-abbrev pub end_of : {A : Type 0} → Node A → ℕ
-end_of n = n.loc.1
+-- x, which stands from the start of a piece to the end of another
+abbrev pub placed : {A : Type 0} → A → Place → Place → Node A
+placed x first last = stands x (between first last)
 
 -- the bytes of a word, or those that a string literal stands for
 abbrev pub Text : Type 0
@@ -40,10 +43,18 @@ pub record Annotation : Type 0 where
 abbrev pub Annotations : Type 0
 Annotations = List (Node Annotation)
 
--- something behind its annotations
+-- what annotations say: the value at each key, at the place of its annotation, in the order of the keys
+abbrev pub ByKey : Type 0
+ByKey = List (Text × Node Text)
+
+-- what these annotations say
+abbrev pub by_key : Annotations → ByKey
+by_key annotations = map_of word_cmp (map (λ a. (a.node.key, stands a.node.value a.loc)) annotations)
+
+-- something with its annotations
 pub record Annotated (A : Type 0) : Type 0 where
   pub item : A
-  pub annotations : Annotations
+  pub annotations : ByKey
 
 -- a type, and the attributes of a record, in the order of the text
 mutual
@@ -58,7 +69,7 @@ mutual
   pub data Attrs : Type 0 where
     no_attrs : Attrs
     -- the annotations of the first attribute, its name, whether it is required, its type and the place of that, and its own place; and the others
-    attr : Annotations → Node Text → Bool → TypeTree → Place → Place → Attrs → Attrs
+    attr : ByKey → Node Text → Bool → TypeTree → Place → Place → Attrs → Attrs
 
 -- an attribute, whose name is required to be there or not
 pub record AttrDecl : Type 0 where

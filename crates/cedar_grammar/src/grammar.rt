@@ -1,8 +1,10 @@
 // SPDX-License-Identifier: Apache-2.0
-ghost use Rattle.std.specs.Prelude.{◌↔◌, ◌≤◌, ◌++◌, ℕ, List};
+ghost use Rattle.std.specs.Prelude.{◌↔◌, ◌≡◌, ◌≤◌, ◌++◌, ℕ, List, [], Ok};
 ghost use Rattle.cedar_tokens.specs.Lexemes.{TextToken};
 ghost use Rattle.cedar_grammar.specs.Grammar.{schema, type_upto, Reads, Viable};
 ghost use Rattle.cedar_grammar.specs.Productions.{Completable};
+ghost use Rattle.cedar_grammar.specs.Reading.{schema_at};
+ghost use Rattle.cedar_grammar.specs.Stops.{Finds};
 ghost use Rattle.cedar_grammar.specs.Trees.{Node, Schema, TypeTree, nest};
 
 /// A law with no work to do: the tokens at which a schema may stop short are exactly those that
@@ -22,4 +24,16 @@ pub fn levels_nest()
     ensures { (n : ℕ) (tokens : List TextToken) (ty : Node TypeTree) (rest : List TextToken)
         → (type_upto n).reads tokens ty rest
         ↔ (((m : ℕ) × (type_upto m).reads tokens ty rest) × (nest ty.node ≤ n)) }
+{}
+
+/// A law with no work to do: going through the tokens by the next one alone finds the schema that
+/// they are, or where they stop being one.
+pub fn reading_finds()
+    ensures finds { (ts : List TextToken) → Finds ts (schema_at ts) }
+    ensures found { (ts : List TextToken) (s : Schema) → Reads ts s → schema_at ts ≡ Ok (s, []) }
+{}
+
+/// A law with no work to do: tokens are one schema at most, places included.
+pub fn one_reading()
+    ensures { (ts : List TextToken) (s s' : Schema) → Reads ts s → Reads ts s' → s ≡ s' }
 {}

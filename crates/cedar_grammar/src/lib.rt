@@ -4,4 +4,4 @@
 
 mod grammar;
 
-pub use grammar::{grammar_viable, levels_nest};
+pub use grammar::{grammar_viable, levels_nest, one_reading, reading_finds};
