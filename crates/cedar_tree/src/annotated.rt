@@ -2,10 +2,10 @@
 ghost use Rattle.std.specs.Prelude.{◌≡◌, Some, None, IfOk};
 ghost use Rattle.cedar_names.specs.Annotating.{annotation_entries};
 ghost use Rattle.cedar_text.specs.Failures.{IfRefused};
-ghost use Rattle.cedar_tree.specs.Annotating.{meaning, place_of, repeat_in, value_text};
+ghost use Rattle.cedar_tree.specs.Annotating.{meaning, repeat_in, value_text};
 
 use crate::parse_error::UserError;
-use cedar_data::{Dup, Failure, Mem, Out, Text};
+use cedar_data::{Dup, Failure, Map, Mem, Out, Text};
 use cedar_names::{Annotation, Annotations, AnyId, Node, Span};
 use std::alloc::Global;
 
@@ -37,18 +37,18 @@ pub fn deduplicate_annotations<T: Drop>(
     ensures refused { IfRefused result (λ fault. repeat_in annotations.items ≡ Some fault) }
 {
     let mut unique = Annotations::new(alloc);
-    let mut keys: Vec<Node<AnyId>> = Vec::new(alloc);
+    let mut places: Map<AnyId, Span> = Map::new(alloc);
     for annotation in annotations {
         let Node {
             node: (key, value),
             loc,
         } = annotation;
-        if let Some(first) = place_of(keys.as_slice(), key.node.as_ref()) {
-            let second = Span {
-                start: key.loc.start,
-                end: key.loc.end,
-            };
-            return Err(Failure::Refused(UserError::DuplicateAnnotations(key.node, first, second)));
+        let place = Span {
+            start: key.loc.start,
+            end: key.loc.end,
+        };
+        if let Some(first) = places.get(&key.node) {
+            return Err(Failure::Refused(UserError::DuplicateAnnotations(key.node, *first, place)));
         }
         let val = value_text(alloc, value)?;
         let meant = Annotation {
@@ -56,7 +56,7 @@ pub fn deduplicate_annotations<T: Drop>(
             loc: Some(loc),
         };
         unique.insert(key.node.dup(alloc)?, meant)?;
-        keys.push(key)?;
+        places.put(key.node, place)?;
     }
     Ok(Annotated {
         item,
@@ -72,19 +72,4 @@ fn value_text(alloc: Global, value: Option<Node<Text>>) -> Mem<Text>
         None => Text::new(alloc, ""),
         Some(value) => Ok(value.node),
     }
-}
-
-/// The place of the first key with this word.
-fn place_of(keys: &[Node<AnyId>], word: &str) -> Option<Span>
-    ensures { result ≡ place_of keys.now word.now }
-{
-    for key in keys {
-        if key.node.as_ref() == word {
-            return Some(Span {
-                start: key.loc.start,
-                end: key.loc.end,
-            });
-        }
-    }
-    None
 }

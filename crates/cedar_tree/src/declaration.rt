@@ -9,6 +9,7 @@ use crate::ty::{AttrDecl, Type};
 use cedar_data::{Dup, Items, Mem, Text};
 use cedar_names::{Id, Loc, Node, NonEmpty, NonEmptyIter};
 use std::alloc::Global;
+use std::fmt;
 
 /// A schema: namespaces, in the order of the text.
 pub type Schema = Items<Annotated<Namespace>>;
@@ -95,6 +96,20 @@ pub struct ActionDecl {
     pub names: NonEmpty<Node<Text>>,
     pub parents: Option<NonEmpty<Node<QualName>>>,
     pub app_decls: Option<Node<NonEmpty<Node<AppDecl>>>>,
+}
+
+impl fmt::Display for PR {
+    ghost use Rattle.std.specs.Prelude.{Some};
+    ghost use Rattle.cedar_tree.specs.Declarations.{scope_text};
+
+    ghost output = { λ scope. Some (scope_text scope) };
+
+    fn fmt<W: fmt::Write>(&self, f: &mut fmt::Formatter<W>) -> fmt::Result {
+        match self {
+            PR::Principal => write!(f, "principal"),
+            PR::Resource => write!(f, "resource"),
+        }
+    }
 }
 
 impl Namespace {

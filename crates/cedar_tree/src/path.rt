@@ -1,19 +1,21 @@
 // SPDX-License-Identifier: Apache-2.0
 ghost use Rattle.std.specs.Prelude.{◌≡◌, [], None, Some, IfOk};
 ghost use Rattle.std.specs.Vec.Iter.{into_iter_items};
-ghost use Rattle.cedar_names.specs.Identifiers.{ids_left};
+ghost use Rattle.cedar_names.specs.Identifiers.{id_words, ids_left};
+ghost use Rattle.cedar_text.specs.Joining.{joined};
 ghost use Rattle.cedar_tree.specs.Paths.{path_at, path_ids, path_basename, path_namespace, path_loc, ids_at, in_cedar, name_of_path};
 
 use cedar_data::{Dup, Items, Mem, Text};
 use cedar_names::{Components, Id, InternalName, Loc, Node};
 use cedar_text::is_cedar;
 use std::alloc::Global;
+use std::fmt;
 use std::vec::IntoIter;
 
 /// A name as it stands in the text: a basename in a namespace of identifiers, which may be empty. Comparisons leave the
 /// place out.
 #[derive(Debug, Drop)]
-#[derive_where(PartialEq, Eq)]
+#[derive_where(PartialEq, Eq, Hash)]
 pub struct Path {
     basename: Id,
     namespace: Items<Id>,
@@ -120,6 +122,19 @@ impl Path {
             None => is_cedar(first.as_ref()),
             Some(_) => false,
         }
+    }
+}
+
+/// Identifiers joined by `::`.
+impl fmt::Display for Path {
+    ghost output = { λ path. Some (joined (id_words (path_ids path))) };
+
+    fn fmt<W: fmt::Write>(&self, f: &mut fmt::Formatter<W>) -> fmt::Result {
+        for id in self.namespace.as_slice() {
+            write!(f, "{id}::")?;
+        }
+        let basename = &self.basename;
+        write!(f, "{basename}")
     }
 }
 
