@@ -1,5 +1,6 @@
 -- SPDX-License-Identifier: Apache-2.0
-pub mod Lexing
-pub mod Productions
-pub mod Plain
-pub mod Reading
+pub mod Causes
+pub mod Marks
+pub mod Repeats
+pub mod Steps
+pub mod Texts

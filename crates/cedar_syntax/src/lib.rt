@@ -1,12 +1,23 @@
 // SPDX-License-Identifier: Apache-2.0
-//! Reads the text of a schema: its tokens, and the plain grammar over them.
+//! The human schema syntax: tokens, trees with their places, and the parser.
 #![tactic(auto)]
 
-mod lexer;
-mod parser;
-mod plain;
+mod brackets;
+mod causes;
+mod lexing;
+mod nesting;
+mod parsing;
+mod reading;
+mod repeats;
+mod tests_of_tokens;
+mod users;
 
-pub use lexer::one_token_list;
-pub use plain::{
-    NoPlainReading, PlainDecl, PlainType, one_plain_reading, plain_viable, read_plain,
+pub use cedar_tokens::{Token, TokenKind};
+pub use cedar_tree::{
+    ActionDecl, Annotated, AppDecl, AttrDecl, BUILTIN_TYPES, ContextDecl, Decl, Declaration,
+    EntityDecl, EnumEntityDecl, Namespace, PR, PRAppDecl, ParseError, ParseErrorKind, ParseErrors,
+    Path, PathIntoIter, PathIter, PrimitiveType, QualName, Schema, StandardEntityDecl, Type,
+    TypeDecl, UserError, deduplicate_annotations,
 };
+pub use lexing::tokens;
+pub use parsing::parse_schema;

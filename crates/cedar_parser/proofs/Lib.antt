@@ -1,0 +1,11 @@
+-- SPDX-License-Identifier: Apache-2.0
+pub mod Loops
+pub mod Chains
+pub mod Literals
+pub mod Commas
+pub mod Faults
+pub mod TypeTrees
+pub mod Braces
+pub mod Noting
+pub mod Applies
+pub mod Items
