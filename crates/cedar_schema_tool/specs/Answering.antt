@@ -3,7 +3,7 @@
 use Rattle.std.specs.Prelude.{◌≡◌, ◌⊎◌, ℕ, Bool, List, Option, IsUtf8}
 use Rattle.cedar_streams.specs.Bytes.{Takes, TakesFront}
 use Rattle.cedar_streams.specs.Faults.{Rose}
-use Rattle.cedar_syntax.specs.Plain.{DeclTree}
+use Rattle.cedar_plain.specs.Plain.{DeclTree}
 use Rattle.cedar_validator.specs.Denotes.{Denotes}
 use Rattle.cedar_validator.specs.WellFormed.{IsWellFormed, Cause}
 use Rattle.cedar_validator.specs.declared.errors.CedarSchemaError.{CedarSchemaError}

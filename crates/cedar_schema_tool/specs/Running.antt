@@ -4,7 +4,7 @@ use Rattle.std.specs.Prelude.{◌≡◌, ◌⊎◌, ◌≤◌, ◌<◌, ℕ, Lis
 use Rattle.cedar_text.specs.Words.{has_word}
 use Rattle.cedar_streams.specs.Bytes.{Takes, TakesFront}
 use Rattle.cedar_streams.specs.Faults.{Rose}
-use Rattle.cedar_syntax.specs.Plain.{DeclTree}
+use Rattle.cedar_plain.specs.Plain.{DeclTree}
 use Rattle.cedar_validator.specs.Denotes.{Denotes}
 use Rattle.cedar_validator.specs.WellFormed.{IsWellFormed, Cause}
 use Rattle.cedar_validator.specs.declared.errors.CedarSchemaError.{CedarSchemaError}

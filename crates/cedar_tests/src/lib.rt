@@ -10,3 +10,5 @@ pub mod outcome;
 mod rows;
 #[cfg(test)]
 mod schema_calls;
+#[cfg(test)]
+mod syntax_rows;

@@ -37,7 +37,7 @@ fn accepted(rt: HostRuntime) -> Result<(), Fail> {
 }
 
 /// Whether a text is accepted with this listing, and nothing else is printed.
-fn is_listed(alloc: Global, input: &str, listing: &str) -> Mem<bool> {
+pub fn is_listed(alloc: Global, input: &str, listing: &str) -> Mem<bool> {
     let outcome = run_on(alloc, "resolve", input.as_bytes())?;
     let is_done = outcome.status == Status::Done && outcome.err.is_empty();
     Ok(is_done && outcome.out.as_slice() == listing.as_bytes())
@@ -94,9 +94,14 @@ fn actions(rt: HostRuntime) -> Result<(), Fail> {
 fn refused(rt: HostRuntime) -> Result<(), Fail> {
     let rows = [
         ("entity A; type T = A;", "error: not built yet\n"),
-        ("entity A {", "error: not built yet\n"),
-        ("entity in;", "error: not built yet\n"),
-        ("entity A // comment\n;", "error: not built yet\n"),
+        (
+            "entity A {",
+            "error: error parsing schema: unexpected end of input\n",
+        ),
+        (
+            "entity in;",
+            "error: error parsing schema: `in` is a reserved identifier\n",
+        ),
         ("entity Action;", "error: not built yet\n"),
         ("entity Long;", "error: not built yet\n"),
         ("entity ipaddr;", "error: not built yet\n"),
@@ -132,7 +137,7 @@ fn refused(rt: HostRuntime) -> Result<(), Fail> {
 }
 
 /// Whether a text is refused with this text, and nothing else is printed.
-fn is_refused(alloc: Global, input: &str, text: &str) -> Mem<bool> {
+pub fn is_refused(alloc: Global, input: &str, text: &str) -> Mem<bool> {
     let outcome = run_on(alloc, "resolve", input.as_bytes())?;
     let is_refused = outcome.status == Status::Refused && outcome.out.is_empty();
     Ok(is_refused && outcome.err.as_slice() == text.as_bytes())
@@ -177,9 +182,18 @@ fn refused_memberships(rt: HostRuntime) -> Result<(), Fail> {
             "action a, b, a; entity E in X;",
             "error: error parsing schema: `a` is declared twice\n",
         ),
-        ("entity A in in;", "error: not built yet\n"),
-        ("entity A in [B,]; entity B;", "error: not built yet\n"),
-        ("action a { };", "error: not built yet\n"),
+        (
+            "entity A in in;",
+            "error: error parsing schema: `in` is a reserved identifier\n",
+        ),
+        (
+            "entity A in [B,]; entity B;",
+            "error: error parsing schema: unexpected token `]`\n",
+        ),
+        (
+            "action a { };",
+            "error: error parsing schema: unexpected token `{`\n",
+        ),
     ];
     for (input, text) in rows {
         assert!(rt;

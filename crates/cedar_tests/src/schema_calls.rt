@@ -1,6 +1,7 @@
 // SPDX-License-Identifier: Apache-2.0
 use cedar_names::{Dup, EntityType, Extensions, Mem, Name, Text, UnreservedId};
-use cedar_syntax::{NoPlainReading, read_plain};
+use cedar_plain::plain_declarations;
+use cedar_syntax::{ParseError, ParseErrorKind, ParseErrors, parse_schema};
 use cedar_types::{AttributeType, Attributes, OpenTag, TcNode, Type, TypeView};
 use cedar_validator::{CedarSchemaError, ValidatorSchema};
 use std::alloc::Global;
@@ -75,7 +76,6 @@ fn schemas(rt: HostRuntime) -> Result<(), Fail> {
     let alloc = rt.alloc();
     let extensions = Extensions::all_available(alloc)?;
     let text = "entity User { name: String }; entity A;";
-    assert_eq!(rt; read_plain(alloc, text).ok().ok_or("no reading")?.len(), 2);
     let schema = ValidatorSchema::from_cedarschema_str(alloc, text, &extensions)
         .ok()
         .ok_or("refused")?;
@@ -161,7 +161,44 @@ fn declared_twice(rt: HostRuntime) -> Result<(), Fail> {
     };
     assert_eq!(rt; twice.dup(alloc)?, twice);
     assert!(rt; twice.help(alloc)?.is_none());
-    assert!(rt; NoPlainReading.help(alloc)?.is_none());
-    assert_eq!(rt; NoPlainReading.spans(alloc)?.len(), 0);
+    Ok(())
+}
+
+/// The error that a text ends early.
+fn ends_early(alloc: Global) -> Mem<CedarSchemaError> {
+    let error = ParseError {
+        kind: ParseErrorKind::UnrecognizedEof { location: 9 },
+        src: Text::new(alloc, "entity A ")?,
+    };
+    Ok(CedarSchemaError::from(ParseErrors::new(error, Vec::new(alloc))))
+}
+
+#[test]
+fn no_schema(rt: HostRuntime) -> Result<(), Fail> {
+    let alloc = rt.alloc();
+    let error = ends_early(alloc)?;
+    assert_eq!(rt; error.dup(alloc)?, error);
+    assert_eq!(rt;
+        error.to_string(alloc)?.as_str(),
+        "error parsing schema: unexpected end of input"
+    );
+    assert!(rt; error.help(alloc)?.is_none());
+    let spans = error.spans(alloc)?;
+    assert_eq!(rt; spans.len(), 1);
+    assert_eq!(rt; spans[0].start, 9);
+    Ok(())
+}
+
+#[test]
+fn plain_forms(rt: HostRuntime) -> Result<(), Fail> {
+    let alloc = rt.alloc();
+    let text = "entity User { name: String }; entity A;";
+    let tree = parse_schema(alloc, text).ok().ok_or("no schema")?;
+    let decls = plain_declarations(alloc, &tree).ok().ok_or("not plain")?;
+    assert_eq!(rt; decls.len(), 2);
+    let tagged = parse_schema(alloc, "entity A tags Long;")
+        .ok()
+        .ok_or("no schema")?;
+    assert!(rt; plain_declarations(alloc, &tagged).is_err());
     Ok(())
 }

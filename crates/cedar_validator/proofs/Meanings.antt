@@ -10,10 +10,10 @@ use Rattle.cedar_text.specs.Words.{is_cedar, has_word, primitive_words}
 use Rattle.cedar_names.specs.declared.id.Id.{Id}
 use Rattle.cedar_names.specs.declared.id.UnreservedId.{UnreservedId}
 use Rattle.cedar_names.specs.declared.name.EntityType.{EntityType}
-use Rattle.cedar_syntax.specs.Plain.{TypeTree, Named, SetOf, type_tree, type_level}
-use Rattle.cedar_syntax.specs.declared.plain.PlainType.{PlainType, fold-roll-PlainType}
-use Rattle.cedar_syntax.specs.declared.plain.PlainType.TheOpen as open_type
-use Rattle.cedar_syntax.specs.declared.plain.PlainType.TheVariants as plain
+use Rattle.cedar_plain.specs.Plain.{TypeTree, Named, SetOf, type_tree, type_level}
+use Rattle.cedar_plain.specs.declared.plain.PlainType.{PlainType, fold-roll-PlainType}
+use Rattle.cedar_plain.specs.declared.plain.PlainType.TheOpen as open_type
+use Rattle.cedar_plain.specs.declared.plain.PlainType.TheVariants as plain
 use Rattle.cedar_types.specs.Types.{entity_type, set_type}
 use Rattle.cedar_types.specs.declared.ty.ResolvedType.{ResolvedType}
 use Rattle.cedar_validator.specs.Declarations.{word_of, is_defined}

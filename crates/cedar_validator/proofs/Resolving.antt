@@ -6,8 +6,8 @@ use Rattle.std.specs.BTreeMap.{insert_entry}
 use Rattle.std.specs.Cmp.Lexicographic.{nat_list_cmp_total}
 use Rattle.cedar_data.specs.Maps.{IsSortedMap}
 use Rattle.cedar_names.specs.Order.{word_cmp}
-use Rattle.cedar_syntax.specs.Plain.{type_tree, attribute_tree}
-use Rattle.cedar_syntax.specs.declared.plain.PlainType.{PlainType}
+use Rattle.cedar_plain.specs.Plain.{type_tree, attribute_tree}
+use Rattle.cedar_plain.specs.declared.plain.PlainType.{PlainType}
 use Rattle.cedar_types.specs.declared.ty.AttributeType.{AttributeType}
 use Rattle.cedar_validator.specs.Declarations.{word_of, is_defined, first_undefined}
 use Rattle.cedar_validator.specs.Denotes.{Unfolds, DenotesAttribute}

@@ -4,8 +4,8 @@ use Rattle.std.proofs.Common.{◌≡◌, ℕ, List, refl}
 use Rattle.cedar_data.proofs.MapsMade.{map-map_of}
 use Rattle.cedar_data.specs.Maps.{map_of}
 use Rattle.cedar_names.specs.Order.{word_cmp}
-use Rattle.cedar_syntax.specs.Plain.{type_tree}
-use Rattle.cedar_syntax.specs.declared.plain.PlainType.{PlainType}
+use Rattle.cedar_plain.specs.Plain.{type_tree}
+use Rattle.cedar_plain.specs.declared.plain.PlainType.{PlainType}
 use Rattle.cedar_names.specs.Identifiers.{unreserved_word}
 use Rattle.cedar_validator.specs.Shapes.{Kept, attribute_trees, shape_of, kept_shapes}
 use Rattle.cedar_validator.specs.Worlds.{unreserved_cmp}

@@ -12,7 +12,7 @@ use Rattle.cedar_names.specs.declared.entity_uid.EntityUID.{EntityUID}
 use Rattle.cedar_text.specs.Failures.{IfRefused}
 use Rattle.cedar_text.specs.Lists.{elements}
 use Rattle.cedar_text.specs.Words.{has_word}
-use Rattle.cedar_syntax.specs.Plain.{DeclTree}
+use Rattle.cedar_plain.specs.Plain.{DeclTree}
 use Rattle.cedar_validator.specs.Building.{IsOnCycle}
 use Rattle.cedar_validator.specs.Declarations.{Shaped, declared_types, declared_actions, shapes, actions, kin_of, world, is_unbuilt, are_distinct, IsFirstRepeat, missing, missing_of, misses_parent, missing_actions, missing_parents}
 use Rattle.cedar_validator.specs.Denotes.{IsActionNamed, DenotesEntry, DenotesActionEntry, Denotes}

@@ -7,7 +7,7 @@ use Rattle.std.specs.Option.{is_some}
 use Rattle.cedar_data.specs.Maps.{map_of}
 use Rattle.cedar_names.specs.Order.{word_cmp}
 use Rattle.cedar_text.specs.Words.{has_word, primitive_words}
-use Rattle.cedar_syntax.specs.Plain.{DeclTree, Entities, Actions, TypeTree, Named, SetOf}
+use Rattle.cedar_plain.specs.Plain.{DeclTree, Entities, Actions, TypeTree, Named, SetOf}
 use Rattle.cedar_validator.specs.Descents.{Kin}
 
 -- written attributes by name, in order; where a name stands twice, the last counts

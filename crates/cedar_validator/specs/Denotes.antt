@@ -8,7 +8,7 @@ use Rattle.cedar_names.specs.Names.{entity_words, entity_cmp}
 use Rattle.cedar_names.specs.declared.entity_uid.EntityUID.{EntityUID}
 use Rattle.cedar_text.specs.Words.{has_word}
 use Rattle.cedar_names.specs.declared.name.EntityType.{EntityType}
-use Rattle.cedar_syntax.specs.Plain.{DeclTree, TypeTree, Named, SetOf}
+use Rattle.cedar_plain.specs.Plain.{DeclTree, TypeTree, Named, SetOf}
 use Rattle.cedar_types.specs.Types.{bool_type, long_type, string_type, set_type, entity_type, entries}
 use Rattle.cedar_types.specs.declared.ty.AttributeType.{AttributeType}
 use Rattle.cedar_types.specs.declared.ty.ResolvedType.{ResolvedType}

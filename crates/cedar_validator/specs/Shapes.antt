@@ -4,8 +4,8 @@ use Rattle.std.specs.Prelude.{ℕ, Bool, List, map}
 use Rattle.std.specs.Map.{keys_of}
 use Rattle.cedar_names.specs.Identifiers.{id_words, unreserved_word}
 use Rattle.cedar_names.specs.declared.id.UnreservedId.{UnreservedId}
-use Rattle.cedar_syntax.specs.Plain.{TypeTree, attribute_tree}
-use Rattle.cedar_syntax.specs.declared.plain.PlainType.{PlainType}
+use Rattle.cedar_plain.specs.Plain.{TypeTree, attribute_tree}
+use Rattle.cedar_plain.specs.declared.plain.PlainType.{PlainType}
 use Rattle.cedar_text.specs.Words.{has_word}
 use Rattle.cedar_validator.specs.Declarations.{Shape, Shaped}
 use Rattle.cedar_validator.specs.declared.world.EntityShape.{EntityShape}

@@ -11,7 +11,7 @@ use Rattle.cedar_names.specs.Identifiers.{unreserved_word}
 use Rattle.cedar_names.specs.Order.{word_cmp}
 use Rattle.cedar_names.specs.declared.id.UnreservedId.{UnreservedId}
 use Rattle.cedar_names.specs.declared.entity_uid.EntityUID.{EntityUID}
-use Rattle.cedar_syntax.specs.Plain.{DeclTree}
+use Rattle.cedar_plain.specs.Plain.{DeclTree}
 use Rattle.cedar_text.specs.Words.{has_word}
 use Rattle.cedar_validator.specs.Building.{MissesTypes, MissesActions}
 use Rattle.cedar_validator.specs.Declarations.{declared_types, declared_actions, shapes, kin_of, world, action_world, is_unbuilt, are_distinct, AreDistinct, IsFirstRepeat, missing, missing_of, missing_actions, missing_parents}

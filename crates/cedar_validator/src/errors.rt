@@ -8,6 +8,7 @@ ghost use Rattle.cedar_validator.specs.UndefinedWords.{noun, others_text, behind
 
 use cedar_data::{Dup, Mem, Text};
 use cedar_names::{EntityUID, NonEmpty, Span};
+use cedar_syntax::ParseErrors;
 use std::alloc::Global;
 use std::error::Error;
 use std::fmt;
@@ -15,7 +16,12 @@ use std::fmt;
 /// Why a text is refused. The variants come in this order: a later one only where no earlier one holds.
 #[derive(Debug, Drop, PartialEq, Eq)]
 pub enum CedarSchemaError {
-    /// The text has no plain reading, or one with a form that isn't built.
+    /// The text is no schema, and these errors say why.
+    Syntax(ParseErrors),
+    /// The text holds a form that isn't built: a named namespace, a common type, an enumerated type, tags, an
+    /// `appliesTo`, a `?`, a record within an attribute's type, a path of several identifiers, a reference with a path,
+    /// a string literal as a name; an entity type that has the name of a type or of an extension type, `Action` or
+    /// `__cedar`; or an attribute of an extension type.
     NotBuilt,
     /// Two declarations have this name, the first in the text that stands a second time.
     DuplicateDeclarations { name: Text },
@@ -29,16 +35,17 @@ pub enum CedarSchemaError {
 }
 
 impl CedarSchemaError {
-    ghost use Rattle.std.specs.Prelude.{◌≡◌, [], IfOk};
+    ghost use Rattle.std.specs.Prelude.{◌≡◌, IfOk};
     ghost use Rattle.std.specs.Option.{option_map};
     ghost use Rattle.std.specs.String.{string_bytes};
-    ghost use Rattle.cedar_validator.specs.Texts.{help_text};
+    ghost use Rattle.cedar_validator.specs.Texts.{help_text, places_of};
 
     /// What to do about the error, where there is something to say.
     pub fn help(&self, alloc: Global) -> Mem<Option<String>>
         ensures { IfOk result (λ help. option_map string_bytes help ≡ help_text self.now) }
     {
         match self {
+            CedarSchemaError::Syntax(errors) => errors.help(alloc),
             CedarSchemaError::NotBuilt => Ok(None),
             CedarSchemaError::DuplicateDeclarations { .. } => Ok(None),
             CedarSchemaError::TypeNotDefined { names, parent } => {
@@ -55,11 +62,14 @@ impl CedarSchemaError {
         }
     }
 
-    /// The places of the kept pieces that have one: none has.
+    /// The places of the kept pieces that have one: the errors that say why a text is no schema.
     pub fn spans(&self, alloc: Global) -> Mem<Vec<Span>>
-        ensures { IfOk result (λ spans. spans.items ≡ []) }
+        ensures { IfOk result (λ spans. spans.items ≡ places_of self.now) }
     {
-        Ok(Vec::new(alloc))
+        match self {
+            CedarSchemaError::Syntax(errors) => errors.spans(alloc),
+            _ => Ok(Vec::new(alloc)),
+        }
     }
 }
 
@@ -71,6 +81,7 @@ impl fmt::Display for CedarSchemaError {
 
     fn fmt<W: fmt::Write>(&self, f: &mut fmt::Formatter<W>) -> fmt::Result {
         match self {
+            CedarSchemaError::Syntax(errors) => write!(f, "error parsing schema: {errors}"),
             CedarSchemaError::NotBuilt => write!(f, "not built yet"),
             CedarSchemaError::DuplicateDeclarations { name } => {
                 write!(f, "error parsing schema: `{name}` is declared twice")
@@ -179,9 +190,24 @@ fn write_uids<W: fmt::Write>(uids: &[EntityUID], f: &mut fmt::Formatter<W>) -> f
 
 impl Error for CedarSchemaError {}
 
+impl From<ParseErrors> for CedarSchemaError {
+    ghost use Rattle.std.specs.Prelude.{◌≡◌};
+    ghost use Rattle.cedar_validator.specs.declared.errors.CedarSchemaError.TheVariants.{Syntax};
+
+    ghost from_gives = { λ errors e. e ≡ Syntax errors };
+
+    fn from(errors: ParseErrors) -> CedarSchemaError {
+        CedarSchemaError::Syntax(errors)
+    }
+}
+
 impl Dup for CedarSchemaError {
     fn dup(&self, alloc: Global) -> Mem<CedarSchemaError> {
         match self {
+            CedarSchemaError::Syntax(errors) => {
+                let errors = errors.dup(alloc)?;
+                Ok(CedarSchemaError::Syntax(errors))
+            }
             CedarSchemaError::NotBuilt => Ok(CedarSchemaError::NotBuilt),
             CedarSchemaError::DuplicateDeclarations { name } => {
                 let name = name.dup(alloc)?;

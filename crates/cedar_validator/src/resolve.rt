@@ -6,7 +6,7 @@ ghost use Rattle.cedar_text.specs.Failures.{IfRefused};
 ghost use Rattle.cedar_names.specs.Identifiers.{id_word, unreserved_word};
 ghost use Rattle.cedar_names.specs.Names.{entity_words};
 ghost use Rattle.cedar_text.specs.Words.{has_word, primitive_words};
-ghost use Rattle.cedar_syntax.specs.Plain.{type_tree};
+ghost use Rattle.cedar_plain.specs.Plain.{type_tree};
 ghost use Rattle.cedar_types.specs.Types.{entries};
 ghost use Rattle.cedar_validator.specs.Declarations.{word_of, is_defined, first_undefined};
 ghost use Rattle.cedar_validator.specs.Denotes.{MeansPrimitive, MeansEntity, Means, Unfolds, DenotesAttribute};
@@ -16,7 +16,7 @@ use crate::shapes::word_of;
 use crate::world::World;
 use cedar_data::{Dup, Failure, Map, Mem, NoMemory, Out, Text};
 use cedar_names::{EntityType, Id, Name, UnreservedId};
-use cedar_syntax::PlainType;
+use cedar_plain::PlainType;
 use cedar_types::{AttributeType, Attributes, Type};
 use std::alloc::Global;
 

@@ -5,7 +5,7 @@ ghost use Rattle.cedar_names.specs.Identifiers.{unreserved_word};
 ghost use Rattle.cedar_names.specs.Order.{word_cmp};
 ghost use Rattle.cedar_text.specs.Failures.{IfRefused};
 ghost use Rattle.cedar_text.specs.Words.{has_word};
-ghost use Rattle.cedar_syntax.specs.Plain.{decl_tree};
+ghost use Rattle.cedar_plain.specs.Plain.{decl_tree};
 ghost use Rattle.cedar_validator.specs.Worlds.{unreserved_cmp, Indexes, RepeatsNames, IsWorld, Refuses, DenotesWorld, WorldFault, Resolves};
 
 use crate::action_building::{close_actions, resolve_actions};
@@ -16,7 +16,7 @@ use crate::shapes::{DeclaredNames, declared};
 use crate::world::{ActionWorld, World, index};
 use cedar_data::Out;
 use cedar_names::Extensions;
-use cedar_syntax::PlainDecl;
+use cedar_plain::PlainDecl;
 use std::alloc::Global;
 
 /// The declared entity types and actions, each by name.

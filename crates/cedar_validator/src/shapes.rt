@@ -5,7 +5,7 @@ ghost use Rattle.cedar_names.specs.Extensions.{extension_words};
 ghost use Rattle.cedar_names.specs.Identifiers.{id_word, id_words, unreserved_word};
 ghost use Rattle.cedar_text.specs.Failures.{IfRefused};
 ghost use Rattle.cedar_text.specs.Words.{has_word};
-ghost use Rattle.cedar_syntax.specs.Plain.{Entities, Actions, type_tree, attribute_tree, decl_tree};
+ghost use Rattle.cedar_plain.specs.Plain.{Entities, Actions, type_tree, attribute_tree, decl_tree};
 ghost use Rattle.cedar_validator.specs.Declarations.{by_name, word_of, type_words, kept_names, is_unbuilt, entity_shapes, action_parents, shapes, actions};
 ghost use Rattle.cedar_validator.specs.Shapes.{attribute_trees, kept_shapes};
 ghost use Rattle.cedar_validator.specs.declared.errors.CedarSchemaError.TheVariants.{NotBuilt};
@@ -14,7 +14,7 @@ use crate::errors::CedarSchemaError;
 use crate::world::{EntityShape, Parents};
 use cedar_data::{Dup, Failure, Items, Map, Mem, Out, Shared, Text};
 use cedar_names::{Extensions, Id, UnreservedId};
-use cedar_syntax::{PlainDecl, PlainType};
+use cedar_plain::{PlainDecl, PlainType};
 use std::alloc::Global;
 
 /// The declared entity types and actions, each in the order of the text.

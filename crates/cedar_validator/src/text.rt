@@ -2,7 +2,7 @@
 ghost use Rattle.std.specs.Prelude.{List};
 ghost use Rattle.cedar_names.specs.Extensions.{extension_words};
 ghost use Rattle.cedar_text.specs.Words.{has_word};
-ghost use Rattle.cedar_syntax.specs.Plain.{DeclTree};
+ghost use Rattle.cedar_plain.specs.Plain.{DeclTree};
 ghost use Rattle.cedar_validator.specs.WellFormed.{IsWellFormed, Answers, AcceptsAs};
 
 use crate::errors::CedarSchemaError;
@@ -10,7 +10,8 @@ use crate::schema::ValidatorSchema;
 use crate::schema_building::resolve;
 use cedar_data::{Failure, Out};
 use cedar_names::Extensions;
-use cedar_syntax::read_plain;
+use cedar_plain::plain_declarations;
+use cedar_syntax::parse_schema;
 use std::alloc::Global;
 
 impl ValidatorSchema {
@@ -25,9 +26,13 @@ impl ValidatorSchema {
         // A well formed text is accepted, want of memory aside.
         ensures accepts { (ds : List DeclTree) → IsWellFormed src.now (has_word (extension_words extensions.now)) ds → AcceptsAs ds result }
     {
-        match read_plain(alloc, src) {
-            Ok(decls) => resolve(alloc, decls, extensions),
-            Err(Failure::Refused(_)) => Err(Failure::Refused(CedarSchemaError::NotBuilt)),
+        match parse_schema(alloc, src) {
+            Ok(tree) => match plain_declarations(alloc, &tree) {
+                Ok(decls) => resolve(alloc, decls, extensions),
+                Err(Failure::Refused(_)) => Err(Failure::Refused(CedarSchemaError::NotBuilt)),
+                Err(Failure::NoMemory) => Err(Failure::NoMemory),
+            },
+            Err(Failure::Refused(errors)) => Err(Failure::Refused(CedarSchemaError::from(errors))),
             Err(Failure::NoMemory) => Err(Failure::NoMemory),
         }
     }

@@ -9,7 +9,7 @@ ghost use Rattle.cedar_validator.specs.Worlds.{Indexes, RepeatsName};
 use crate::errors::CedarSchemaError;
 use cedar_data::{Failure, Items, Map, Mem, Out, Shared, Text};
 use cedar_names::{Id, UnreservedId};
-use cedar_syntax::PlainType;
+use cedar_plain::PlainType;
 use std::alloc::Global;
 
 /// What is declared of an entity type: its parents in the order of the text, and its attributes by name.

@@ -4,7 +4,7 @@ use Rattle.std.specs.List.{AllZip, list_any}
 use Rattle.cedar_names.specs.Identifiers.{id_words, unreserved_word}
 use Rattle.cedar_names.specs.declared.id.Id.{Id}
 use Rattle.cedar_names.specs.declared.id.UnreservedId.{UnreservedId}
-use Rattle.cedar_syntax.specs.declared.plain.PlainType.{PlainType}
+use Rattle.cedar_plain.specs.declared.plain.PlainType.{PlainType}
 use Rattle.cedar_types.specs.Types.{entries}
 use Rattle.cedar_validator.specs.Children.{children_at}
 use Rattle.cedar_validator.specs.Declarations.{kin_of, undeclared, first_undefined}

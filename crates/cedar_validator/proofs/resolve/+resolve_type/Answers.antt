@@ -1,7 +1,7 @@
 -- SPDX-License-Identifier: Apache-2.0
 use Rattle.std.proofs.Common.{◌≡◌, subst, false, MatchOption, Option}
-use Rattle.cedar_syntax.specs.Plain.{type_tree}
-use Rattle.cedar_syntax.specs.declared.plain.PlainType.{PlainType}
+use Rattle.cedar_plain.specs.Plain.{type_tree}
+use Rattle.cedar_plain.specs.declared.plain.PlainType.{PlainType}
 use Rattle.cedar_types.specs.declared.ty.ResolvedType.{ResolvedType}
 use Rattle.cedar_validator.specs.Declarations.{is_defined, word_of}
 use Rattle.cedar_validator.specs.Denotes.{Unfolds}

@@ -1,7 +1,7 @@
 -- SPDX-License-Identifier: Apache-2.0
 use Rattle.std.proofs.Common.{◌≡◌, ◌∙◌, ap, sym, subst, refl, false, ℕ, List, MatchOption, Option}
 use Rattle.std.specs.List.{AllZip}
-use Rattle.cedar_syntax.specs.Plain.{type_tree}
+use Rattle.cedar_plain.specs.Plain.{type_tree}
 use Rattle.cedar_types.proofs.Entries.{entries-attributes_of}
 use Rattle.cedar_types.specs.Types.{entries, required}
 use Rattle.cedar_types.specs.declared.ty.AttributeType.{AttributeType}

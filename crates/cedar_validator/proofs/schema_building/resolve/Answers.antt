@@ -2,7 +2,7 @@
 use Rattle.std.proofs.Common.{map}
 use Rattle.cedar_names.specs.Extensions.{extension_words}
 use Rattle.cedar_text.specs.Words.{has_word}
-use Rattle.cedar_syntax.specs.Plain.{decl_tree}
+use Rattle.cedar_plain.specs.Plain.{decl_tree}
 use Rattle.cedar_validator.proofs.WorldFaults.{resolves}
 use Rattle.cedar_validator.proofs.schema_building.resolve.Goals as goal
 

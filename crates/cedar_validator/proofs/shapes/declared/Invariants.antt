@@ -4,7 +4,7 @@ use Rattle.std.specs.List.{list_any}
 use Rattle.std.specs.Vec.Iter.{into_iter_items}
 use Rattle.cedar_names.specs.Extensions.{extension_words}
 use Rattle.cedar_text.specs.Words.{has_word}
-use Rattle.cedar_syntax.specs.Plain.{decl_tree}
+use Rattle.cedar_plain.specs.Plain.{decl_tree}
 use Rattle.cedar_validator.specs.Declarations.{is_unbuilt, shapes, actions}
 use Rattle.cedar_validator.specs.Shapes.{kept_shapes}
 use Rattle.cedar_validator.proofs.shapes.declared.Given as goal

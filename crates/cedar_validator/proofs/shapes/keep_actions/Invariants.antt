@@ -1,7 +1,7 @@
 -- SPDX-License-Identifier: Apache-2.0
 use Rattle.std.proofs.Common.{◌≡◌, ◌++◌}
 use Rattle.std.specs.Vec.Iter.{into_iter_items}
-use Rattle.cedar_syntax.specs.Plain.{Actions}
+use Rattle.cedar_plain.specs.Plain.{Actions}
 use Rattle.cedar_validator.specs.Declarations.{action_parents}
 use Rattle.cedar_validator.proofs.shapes.keep_actions.Given as goal
 

@@ -5,7 +5,7 @@ use Rattle.std.specs.Vec.Iter.{into_iter_items}
 use Rattle.cedar_names.specs.Extensions.{extension_words}
 use Rattle.cedar_names.specs.Identifiers.{id_words}
 use Rattle.cedar_text.specs.Words.{has_word}
-use Rattle.cedar_syntax.specs.Plain.{Entities, attribute_tree}
+use Rattle.cedar_plain.specs.Plain.{Entities, attribute_tree}
 use Rattle.cedar_validator.specs.Declarations.{is_unbuilt, entity_shapes}
 use Rattle.cedar_validator.specs.Shapes.{kept_shapes}
 use Rattle.cedar_validator.proofs.shapes.keep_entities.Given as goal
