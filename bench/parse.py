@@ -1,0 +1,117 @@
+#!/usr/bin/env python3
+# SPDX-License-Identifier: Apache-2.0
+"""Times the parser on texts of every form, and prints a table.
+
+    bench/parse.py [PROGRAM]
+
+PROGRAM is a built program; without it, the one that the script `joistginger` at
+the top builds. Each form is made twice, of about 400 KiB and of at most 4 MiB;
+each row is the best of three runs of `resolve`. A form that isn't resolved yet
+is refused as soon as the text is parsed, so that its time is that of reading the
+text, its tokens and its tree. The last column says how much a byte of the long
+text costs, a byte of the short one being 1.
+"""
+import os
+import subprocess
+import sys
+import tempfile
+
+TOP = os.path.dirname(os.path.dirname(os.path.abspath(__file__)))
+LIMIT = 4194304
+
+
+def repeated(piece, size):
+    """As many pieces as fit in the size; `%d` in a piece is its number."""
+    pieces, length, i = [], 0, 0
+    while True:
+        one = piece % i if "%d" in piece else piece
+        if length + len(one) > size:
+            return "".join(pieces)
+        pieces.append(one)
+        length += len(one)
+        i += 1
+
+
+EVERY = ("@doc(\"a text\") namespace N%d { type T = { a: Long, \"b\"?: Set<{ c: X::Y }> }; "
+         "@x entity A, B in [C, D::E] = { @k(\"v\") a: T, b: Set<String>, } tags Long; "
+         "entity F enum [\"p\", \"q\\n\"]; action \"r s\", t in [u, N::Action::\"v\"] "
+         "appliesTo { principal: [A, B], resource: F, context: { ip: ipaddr } }; }\n")
+
+
+def every_form(size):
+    return "".join(EVERY.replace("N%d", f"N{i:05}") for i in range(size // (len(EVERY) + 3)))
+
+
+def comments(size):
+    return repeated("// a comment, which says nothing at all\n", size)
+
+
+def attributes(size):
+    """One entity type with 100,000 attributes, or a tenth of them."""
+    return "entity E { " + ", ".join(f"attribute{i}: Long" for i in range(size * 100000 // LIMIT)) + " };"
+
+
+def names(size):
+    return "entity " + ", ".join(f"Name{i}" for i in range(size * 100000 // LIMIT)) + " { a: Long };"
+
+
+def literal(size):
+    return "action \"" + "a" * (size - 20) + "\";"
+
+
+def escapes(size):
+    return "action \"" + "\\u{e9}" * ((size - 20) // 6) + "\";"
+
+
+def annotated(size):
+    """One declaration with as many annotations as fit."""
+    return repeated("@key%d(\"v\") ", size - 100) + "entity A tags Long;"
+
+
+def stray(size):
+    """A schema that goes wrong at its last token."""
+    return every_form(size - 100) + "entity in;"
+
+
+FORMS = [("every form", every_form), ("comments", comments), ("one type, many attributes", attributes),
+         ("one declaration, many names", names), ("one literal", literal), ("one literal of escapes", escapes),
+         ("one declaration, many annotations", annotated), ("a stray last token", stray)]
+
+
+def run(program, path):
+    """Processor seconds and peak memory in MB of one run."""
+    with open(path, "rb") as source, open(os.devnull, "wb") as out:
+        child = subprocess.Popen([program, "resolve"], stdin=source, stdout=out, stderr=out)
+        _, status, usage = os.wait4(child.pid, 0)
+    child.returncode = os.waitstatus_to_exitcode(status)
+    if child.returncode not in (0, 1):
+        sys.exit(f"{program} ended with status {child.returncode}")
+    return usage.ru_utime + usage.ru_stime, usage.ru_maxrss / 1024
+
+
+def measured(program, text):
+    with tempfile.NamedTemporaryFile(suffix=".cedarschema") as source:
+        source.write(text.encode())
+        source.flush()
+        rows = [run(program, source.name) for _ in range(3)]
+    return min(row[0] for row in rows), max(row[1] for row in rows)
+
+
+def main():
+    program = sys.argv[1] if len(sys.argv) > 1 else None
+    if program is None:
+        built = subprocess.run([os.path.join(TOP, "joistginger"), "--where"],
+                               stdout=subprocess.PIPE, check=True)
+        program = built.stdout.decode().strip()
+    print("| text | bytes | seconds (processor) | peak MB | bytes | seconds (processor) | peak MB | cost of a byte |")
+    print("|---|---|---|---|---|---|---|---|")
+    for name, form in FORMS:
+        short, long = form(LIMIT // 10), form(LIMIT)
+        little, small = measured(program, short)
+        much, large = measured(program, long)
+        each = (much / len(long)) / (little / len(short))
+        print(f"| {name} | {len(short)} | {little:.3f} | {small:.0f} | {len(long)} | {much:.3f} | {large:.0f} | {each:.2f} |")
+
+
+if __name__ == "__main__":
+    main()
