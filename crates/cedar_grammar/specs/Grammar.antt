@@ -1,5 +1,5 @@
 -- SPDX-License-Identifier: Apache-2.0
--- The grammar of the human schema syntax: one production for one line of it.
+-- The grammar of the human schema syntax: one production for one line of it, from its last line to its first; `App` stands behind `Record`, which it uses.
 use Rattle.std.specs.Prelude.{ℕ, zero, suc, ◌+◌, ◌-◌, ◌≤◌, Bool, true, false, not, ◌&&◌, ◌||◌, if◌then◌else◌, List, [], ◌∷◌, length, map, fold, take, drop, codes, bytes_eq, Option, Some, None, option_map, nat_eq}
 use Rattle.std.specs.List.{starts_with, ends_with}
 use Rattle.std.specs.Option.{option_and_then}
@@ -73,22 +73,6 @@ keyword s = class (text_where (is_keyword s))
 abbrev pub mark : List ℕ → Production TextToken (Node Text)
 mark s = class (text_where (is_mark_token s))
 
--- Word
-abbrev pub word : Production TextToken (Node Text)
-word = class (text_where is_word_token)
-
--- Str
-abbrev pub str : Production TextToken (Node Text)
-str = class literal_value
-
--- Ident
-abbrev pub ident : Production TextToken (Node Text)
-ident = class (text_where is_ident_token)
-
--- Name = Word | Str
-abbrev pub name : Production TextToken (Node Text)
-name = word ∣ str
-
 -- R {',' R}
 abbrev pub commas : {A : Type 0} → Production TextToken A → Production TextToken (List A)
 commas R = separated (mark (codes ",")) R
@@ -101,57 +85,13 @@ bracketed opening closing R = do
   behind ← mark closing
   gives (placed x before.loc behind.loc)
 
--- the last of n and the others
-abbrev pub last_of : Node Text → List (Node Text) → Node Text
-last_of n [] = n
-last_of n (m ∷ others) = last_of m others
+-- Word
+abbrev pub word : Production TextToken (Node Text)
+word = class (text_where is_word_token)
 
--- the path of these identifiers
-abbrev pub path_of : Node Text → List (Node Text) → Path
-path_of n others = placed (n.node ∷ map (λ m. m.node) others) n.loc (last_of n others).loc
-
--- Path = Ident {'::' Ident}
-abbrev pub path : Production TextToken Path
-path = do
-  n ← ident
-  others ← many (mark (codes "::") >> ident)
-  gives (path_of n others)
-
--- Idents = Ident {',' Ident}
-abbrev pub idents : Production TextToken (List (Node Text))
-idents = commas ident
-
--- Names = Name {',' Name}
-abbrev pub names : Production TextToken (List (Node Text))
-names = commas name
-
--- R | '[' [R {',' R}] ']', where the value of R has a place
-abbrev pub one_or_list : {A : Type 0} → Production TextToken (Node A) → Production TextToken (Node (List (Node A)))
-one_or_list R =
-    (R >>= λ x. gives (stands (x ∷ []) x.loc))
-    ∣ bracketed (codes "[") (codes "]") (commas R ∣ gives [])
-
--- Types = Path | '[' [Path {',' Path}] ']'
-abbrev pub types : Production TextToken (Node (List Path))
-types = one_or_list path
-
--- an id that ends a reference, which starts here, behind a path or alone
-abbrev pub qualified : Option Path → Node Text → Place → Node QualName
-qualified p id start = placed (record { path = p; eid = id.node }) start id.loc
-
--- Ref = Path '::' Str | Name
-abbrev pub ref : Production TextToken (Node QualName)
-ref =
-    (do
-      p ← path
-      mark (codes "::")
-      id ← str
-      gives (qualified (Some p) id p.loc))
-    ∣ (name >>= λ id. gives (qualified None id id.loc))
-
--- Refs = Ref | '[' [Ref {',' Ref}] ']'
-abbrev pub refs : Production TextToken (Node (List (Node QualName)))
-refs = one_or_list ref
+-- Str
+abbrev pub str : Production TextToken (Node Text)
+str = class literal_value
 
 -- the annotation of this key, which begins here; its value is empty where none stands
 abbrev pub annotation_of : Place → Node Text → Option (Node (Node Text)) → Node Annotation
@@ -185,6 +125,66 @@ annotated R = do
   x ← R
   gives (record { item = x; annotations = annotations })
 
+-- Ident
+abbrev pub ident : Production TextToken (Node Text)
+ident = class (text_where is_ident_token)
+
+-- Name = Word | Str
+abbrev pub name : Production TextToken (Node Text)
+name = word ∣ str
+
+-- Names = Name {',' Name}
+abbrev pub names : Production TextToken (List (Node Text))
+names = commas name
+
+-- Idents = Ident {',' Ident}
+abbrev pub idents : Production TextToken (List (Node Text))
+idents = commas ident
+
+-- the last of n and the others
+abbrev pub last_of : Node Text → List (Node Text) → Node Text
+last_of n [] = n
+last_of n (m ∷ others) = last_of m others
+
+-- the path of these identifiers
+abbrev pub path_of : Node Text → List (Node Text) → Path
+path_of n others = placed (n.node ∷ map (λ m. m.node) others) n.loc (last_of n others).loc
+
+-- Path = Ident {'::' Ident}
+abbrev pub path : Production TextToken Path
+path = do
+  n ← ident
+  others ← many (mark (codes "::") >> ident)
+  gives (path_of n others)
+
+-- an id that ends a reference, which starts here, behind a path or alone
+abbrev pub qualified : Option Path → Node Text → Place → Node QualName
+qualified p id start = placed (record { path = p; eid = id.node }) start id.loc
+
+-- Ref = Path '::' Str | Name
+abbrev pub ref : Production TextToken (Node QualName)
+ref =
+    (do
+      p ← path
+      mark (codes "::")
+      id ← str
+      gives (qualified (Some p) id p.loc))
+    ∣ (name >>= λ id. gives (qualified None id id.loc))
+
+-- R | '[' [R {',' R}] ']', where the value of R has a place
+abbrev pub one_or_list : {A : Type 0} → Production TextToken (Node A) → Production TextToken (Node (List (Node A)))
+one_or_list R =
+    (R >>= λ x. gives (stands (x ∷ []) x.loc))
+    ∣ bracketed (codes "[") (codes "]") (commas R ∣ gives [])
+
+-- Refs = Ref | '[' [Ref {',' Ref}] ']'
+abbrev pub refs : Production TextToken (Node (List (Node QualName)))
+refs = one_or_list ref
+
+-- Types = Path | '[' [Path {',' Path}] ']'
+abbrev pub types : Production TextToken (Node (List Path))
+types = one_or_list path
+
 -- an attribute of this name; a question mark says that it isn't required
 abbrev pub attr_of : Node Text → Bool → Node TypeTree → Node AttrDecl
 attr_of n question ty = placed (record { name = n; required = not question; ty = ty }) n.loc ty.loc
@@ -202,6 +202,32 @@ attr_decl type = annotated do
 abbrev pub record_type : Production TextToken (Node TypeTree) → Production TextToken (Node Attrs)
 record_type type =
     bracketed (codes "{") (codes "}") ((trailing (mark (codes ",")) (attr_decl type) >>= λ xs. gives (attrs_of xs)) ∣ gives no_attrs)
+
+-- 'principal' or 'resource'
+abbrev pub pr : Production TextToken (Node PR)
+pr =
+    (keyword (codes "principal") >>= λ k. gives (stands Principal k.loc))
+    ∣ (keyword (codes "resource") >>= λ k. gives (stands Resource k.loc))
+
+-- Path | Record
+abbrev pub context_type : Production TextToken (Node TypeTree) → Production TextToken (Node ContextDecl)
+context_type type =
+    (path >>= λ p. gives (stands (Named p) p.loc))
+    ∣ (record_type type >>= λ r. gives (stands (Shape r) r.loc))
+
+-- App = ('principal' | 'resource') ':' Types | 'context' ':' (Path | Record)
+abbrev pub app_decl : Production TextToken (Node TypeTree) → Production TextToken (Node AppDecl)
+app_decl type =
+    (do
+      which ← pr
+      mark (codes ":")
+      ts ← types
+      gives (placed (Types which ts.node) which.loc ts.loc))
+    ∣ (do
+      context ← keyword (codes "context")
+      mark (codes ":")
+      c ← context_type type
+      gives (placed (Context c.node) context.loc c.loc))
 
 -- 'Set' '<' Type '>'
 abbrev pub set_type : Production TextToken (Node TypeTree) → Production TextToken (Node TypeTree)
@@ -268,32 +294,6 @@ enum_entity = do
   choices ← bracketed (codes "[") (codes "]") (commas str)
   semicolon ← mark (codes ";")
   gives (placed (Entity (Enum (record { names = ns; choices = choices.node }))) entity.loc semicolon.loc)
-
--- 'principal' or 'resource'
-abbrev pub pr : Production TextToken (Node PR)
-pr =
-    (keyword (codes "principal") >>= λ k. gives (stands Principal k.loc))
-    ∣ (keyword (codes "resource") >>= λ k. gives (stands Resource k.loc))
-
--- Path | Record
-abbrev pub context_type : Production TextToken (Node TypeTree) → Production TextToken (Node ContextDecl)
-context_type type =
-    (path >>= λ p. gives (stands (Named p) p.loc))
-    ∣ (record_type type >>= λ r. gives (stands (Shape r) r.loc))
-
--- App = ('principal' | 'resource') ':' Types | 'context' ':' (Path | Record)
-abbrev pub app_decl : Production TextToken (Node TypeTree) → Production TextToken (Node AppDecl)
-app_decl type =
-    (do
-      which ← pr
-      mark (codes ":")
-      ts ← types
-      gives (placed (Types which ts.node) which.loc ts.loc))
-    ∣ (do
-      context ← keyword (codes "context")
-      mark (codes ":")
-      c ← context_type type
-      gives (placed (Context c.node) context.loc c.loc))
 
 -- 'appliesTo' '{' App {',' App} [','] '}'
 abbrev pub applies_to : Production TextToken (Node TypeTree) → Production TextToken (Node (List (Node AppDecl)))
