@@ -2,7 +2,8 @@
 ghost use Rattle.std.specs.Prelude.{◌≡◌, Some, codes};
 ghost use Rattle.cedar_data.specs.declared.memory.Failure.TheVariants.{NoMemory as OutOfMemory};
 
-use std::alloc::{AllocError, AllocFailed};
+use crate::dup::Dup;
+use std::alloc::{AllocError, AllocFailed, Global};
 use std::error::Error;
 use std::fmt;
 
@@ -66,5 +67,23 @@ impl<E, T: Drop> From<AllocFailed<T>> for Failure<E> {
 
     fn from(_e: AllocFailed<T>) -> Failure<E> {
         Failure::NoMemory
+    }
+}
+
+impl Dup for NoMemory {
+    fn dup(&self, _alloc: Global) -> Mem<NoMemory> {
+        Ok(NoMemory)
+    }
+}
+
+impl<E: Dup> Dup for Failure<E> {
+    fn dup(&self, alloc: Global) -> Mem<Failure<E>> {
+        match self {
+            Failure::Refused(error) => {
+                let copy = error.dup(alloc)?;
+                Ok(Failure::Refused(copy))
+            }
+            Failure::NoMemory => Ok(Failure::NoMemory),
+        }
     }
 }

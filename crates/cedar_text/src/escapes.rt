@@ -5,7 +5,7 @@ ghost use Rattle.std.specs.Fmt.{WritesOnOk, digits, digit_glyph};
 ghost use Rattle.std.specs.String.{string_bytes};
 ghost use Rattle.cedar_text.specs.Escapes.{escaped_byte, escaped_char, escaped, backslashed};
 
-use cedar_data::Mem;
+use cedar_data::{Dup, Mem};
 use std::alloc::Global;
 use std::fmt;
 
@@ -72,6 +72,12 @@ impl EscapedByte {
         ensures { result.now ≡ escape_bytes self.now }
     {
         &self.bytes[..self.len]
+    }
+}
+
+impl Dup for EscapedByte {
+    fn dup(&self, _alloc: Global) -> Mem<EscapedByte> {
+        Ok(*self)
     }
 }
 
