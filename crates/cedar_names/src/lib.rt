@@ -18,7 +18,7 @@ pub use any_id::AnyId;
 pub use cedar_data::{Boxed, Dup, Failure, Items, Map, Mem, NoMemory, Out, Set, Shared, Text};
 pub use cedar_text::{
     BadEscape, Escaped, EscapedByte, Loc, NameFault, Node, NonEmpty, NonEmptyIter, Span, escape,
-    unescape, unescape_undoes_escape,
+    literal_makes_an_entity, unescape, unescape_undoes_escape, words_make_a_name,
 };
 pub use components::Components;
 pub use entity_uid::{Eid, EntityUID};

@@ -5,3 +5,4 @@ pub mod LiteralLemmas
 pub mod PartsLemmas
 pub mod UndoLemmas
 pub mod UnescapeLemmas
+pub mod WritingLemmas

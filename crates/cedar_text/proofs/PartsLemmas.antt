@@ -34,11 +34,11 @@ parts-first zero (b ∷ bs) =
     (record { first = []; others = parts_behind 1 bs; is = refl }) (grow-first b (parts_behind 0 bs) (parts-first 0 bs))
 
 -- bytes at the front of the first part
-abbrev grow_all : List ℕ → List (List ℕ) → List (List ℕ)
+abbrev pub grow_all : List ℕ → List (List ℕ) → List (List ℕ)
 grow_all [] ps = ps
 grow_all (b ∷ w) ps = grow b (grow_all w ps)
 
-grow_all-first : (w p : List ℕ) (ps : List (List ℕ)) → grow_all w (p ∷ ps) ≡ (w ++ p) ∷ ps
+pub grow_all-first : (w p : List ℕ) (ps : List (List ℕ)) → grow_all w (p ∷ ps) ≡ (w ++ p) ∷ ps
 grow_all-first [] p ps = refl
 grow_all-first (b ∷ w) p ps = ap (grow b) (grow_all-first w p ps)
 
@@ -46,14 +46,14 @@ grow_all-first (b ∷ w) p ps = ap (grow b) (grow_all-first w p ps)
 no_colon : (b : ℕ) → is_word_byte b ≡ true → nat_eq 58 b ≡ false
 no_colon b word = grind (arith, nat_tests, word)
 
-start-byte : (b : ℕ) → is_word_start b ≡ true → is_word_byte b ≡ true
+pub start-byte : (b : ℕ) → is_word_start b ≡ true → is_word_byte b ≡ true
 start-byte b start = grind (arith, nat_tests, start)
 
 no_separator : (b : ℕ) (bs : List ℕ) → is_word_byte b ≡ true → starts_with nat_eq (b ∷ bs) (codes "::") ≡ false
 no_separator b bs word = rw (no_colon b word) refl
 
 -- a text that begins with bytes of a word
-parts-word : (w rest : List ℕ) → list_all is_word_byte w ≡ true → parts (w ++ rest) ≡ grow_all w (parts rest)
+pub parts-word : (w rest : List ℕ) → list_all is_word_byte w ≡ true → parts (w ++ rest) ≡ grow_all w (parts rest)
 parts-word [] rest all = refl
 parts-word (b ∷ w) rest all =
     let word : is_word_byte b ≡ true = first_so (is_word_byte b) (list_all is_word_byte w) all in

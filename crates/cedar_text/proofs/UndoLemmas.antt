@@ -17,13 +17,13 @@ record Undone (b : ℕ) (rest : List ℕ) (at : ℕ) : Type 0 where
   end : ℕ
   is : unescape_from 0 at (escaped_byte b ++ rest) ≡ before (b ∷ []) (unescape_from 0 end rest)
 
-glyph-hex : (n : ℕ) → n < 16 → is_ascii_hexdigit (digit_glyph false n) ≡ true
+pub glyph-hex : (n : ℕ) → n < 16 → is_ascii_hexdigit (digit_glyph false n) ≡ true
 glyph-hex n small = grind (arith, nat_tests, small)
 
 glyph-value : (n : ℕ) → n < 16 → digit_value (digit_glyph false n) ≡ n
 glyph-value n small = grind (arith, nat_tests, small)
 
-control-low : (b : ℕ) → is_ascii_control b ≡ true → b < 128
+pub control-low : (b : ℕ) → is_ascii_control b ≡ true → b < 128
 control-low b e = grind (arith, nat_tests, e)
 
 -- one and two hexadecimal digits in braces

@@ -1,5 +1,5 @@
 -- SPDX-License-Identifier: Apache-2.0
-use Rattle.std.specs.Prelude.{◌≡◌, ℕ, ◌+◌, ◌==◌, not, if◌then◌else◌, List, [], ◌∷◌, ◌++◌, length, take, drop, codes, Option, Some, None, Result, Ok, Err}
+use Rattle.std.specs.Prelude.{◌≡◌, ◌≢◌, ℕ, ◌+◌, ◌==◌, not, if◌then◌else◌, List, [], ◌∷◌, ◌++◌, length, take, drop, codes, Option, Some, None, Result, Ok, Err}
 use Rattle.std.specs.List.{take_while}
 use Rattle.cedar_text.specs.Joining.{joined}
 use Rattle.cedar_text.specs.Faults.{token_at, first_fault, no_unreserved_id}
@@ -69,8 +69,18 @@ split_fault front (quote ∷ inner) = first_fault (opening_fault front) (first_f
 abbrev pub uid_fault : List ℕ → Option NameFault
 uid_fault s = split_fault (before_quote s) (from_quote s)
 
+-- items of a literal, one after another: any byte but `"` and `\`, or `\` and a byte that is no line feed
+pub data AreItemBytes : List ℕ → Type 0 where
+  no_item : AreItemBytes []
+  plain_item : {b : ℕ} {bs : List ℕ} → b ≢ 34 → b ≢ 92 → AreItemBytes bs → AreItemBytes (b ∷ bs)
+  escaped_item : {b : ℕ} {bs : List ℕ} → b ≢ 10 → AreItemBytes bs → AreItemBytes (92 ∷ b ∷ bs)
+
+-- the words with `::` between them, `::`, and a literal of this body
+abbrev pub uid_with : List (List ℕ) → List ℕ → List ℕ
+uid_with words body = joined words ++ codes "::\"" ++ body ++ codes "\""
+
 -- the text is the words with `::` between them, `::`, and a literal of the id
 pub record WritesUid (s : List ℕ) (words : List (List ℕ)) (id : List ℕ) : Type 0 where
   pub body : List ℕ
-  pub is : s ≡ joined words ++ codes "::\"" ++ body ++ codes "\""
+  pub is : s ≡ uid_with words body
   pub value : unescaped body ≡ Ok id

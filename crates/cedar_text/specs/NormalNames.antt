@@ -1,5 +1,5 @@
 -- SPDX-License-Identifier: Apache-2.0
-use Rattle.std.specs.Prelude.{ℕ, zero, suc, ◌+◌, Bool, true, false, if◌then◌else◌, List, [], ◌∷◌, length, nat_eq, codes, Option, Some, None}
+use Rattle.std.specs.Prelude.{ℕ, zero, suc, ◌+◌, Bool, true, false, not, ◌&&◌, if◌then◌else◌, List, [], ◌∷◌, length, nat_eq, codes, Option, Some, None}
 use Rattle.std.specs.List.{starts_with}
 use Rattle.cedar_text.specs.Faults.{word_len, bad_token, first_fault, no_id, no_unreserved_id}
 use Rattle.cedar_text.specs.Words.{is_word}
@@ -40,6 +40,10 @@ words_fault excluded (w ∷ ws) = if excluded w then Some (Reserved w) else word
 -- what is wrong with a text that has to be words with `::` between them, none of those that are excluded
 abbrev pub name_fault : (List ℕ → Bool) → List ℕ → Option NameFault
 name_fault excluded s = first_fault (parts_fault s 0 (parts s)) (words_fault excluded (parts s))
+
+-- the text is a word, none of those that are excluded
+abbrev pub may_stand : (List ℕ → Bool) → List ℕ → Bool
+may_stand excluded w = is_word w && not (excluded w)
 
 -- the words that a name excludes, where `__cedar` is allowed and where it is not
 abbrev pub excluded_words : Bool → List ℕ → Bool

@@ -1,11 +1,12 @@
 // SPDX-License-Identifier: Apache-2.0
-ghost use Rattle.std.specs.Prelude.{◌≡◌, ◌≤◌, ◌++◌, false, length, Some, None, IfOk, IsErr};
-ghost use Rattle.std.specs.List.{take_while};
+ghost use Rattle.std.specs.Prelude.{◌≡◌, ◌≤◌, ◌++◌, ◌∷◌, ℕ, Bool, List, true, false, length, Some, None, IfOk, IsErr};
+ghost use Rattle.std.specs.List.{take_while, list_all};
 ghost use Rattle.std.specs.Str.{IsCharBoundary};
 ghost use Rattle.cedar_text.specs.Failures.{IfRefused};
 ghost use Rattle.cedar_text.specs.Faults.{token_at, word_len, form_fault};
-ghost use Rattle.cedar_text.specs.NormalNames.{parts, parts_fault, end_fault, open_part, is_empty_fault};
-ghost use Rattle.cedar_text.specs.Words.{is_word_byte};
+ghost use Rattle.cedar_text.specs.Joining.{joined};
+ghost use Rattle.cedar_text.specs.NormalNames.{parts, parts_fault, name_fault, may_stand, end_fault, open_part, is_empty_fault};
+ghost use Rattle.cedar_text.specs.Words.{is_word, is_word_byte};
 ghost use Rattle.cedar_text.specs.declared.fault.NameFault.TheVariants.{BadToken, Reserved};
 
 use crate::fault::NameFault;
@@ -134,3 +135,9 @@ pub fn reserved<T>(alloc: Global, word: &str) -> Out<T, NameFault>
     let word = Text::new(alloc, word)?;
     Err(Failure::Refused(NameFault::Reserved { word }))
 }
+
+/// The law that words with `::` between them are a name of these words, where none is excluded. It does nothing.
+pub fn words_make_a_name()
+    ensures fault { (excluded : List ℕ → Bool) (w : List ℕ) (ws : List (List ℕ)) → list_all (may_stand excluded) (w ∷ ws) ≡ true → name_fault excluded (joined (w ∷ ws)) ≡ None }
+    ensures words { (w : List ℕ) (ws : List (List ℕ)) → list_all is_word (w ∷ ws) ≡ true → parts (joined (w ∷ ws)) ≡ w ∷ ws }
+{}

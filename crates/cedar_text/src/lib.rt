@@ -15,8 +15,8 @@ mod words;
 
 pub use escapes::{Escaped, EscapedByte, escape};
 pub use fault::NameFault;
-pub use form::{check_form, parts_of, reserved};
-pub use literal::{quote_place, read_literal, words_before_quote};
+pub use form::{check_form, parts_of, reserved, words_make_a_name};
+pub use literal::{literal_makes_an_entity, quote_place, read_literal, words_before_quote};
 pub use location::{Loc, Span};
 pub use node::Node;
 pub use non_empty::{NonEmpty, NonEmptyIter};

@@ -1,12 +1,15 @@
 // SPDX-License-Identifier: Apache-2.0
-ghost use Rattle.std.specs.Prelude.{◌≡◌, ◌+◌, ◌^◌, ◌<◌, ◌≤◌, ◌++◌, [], ◌∷◌, length, Some, None, Ok, IfOk};
+ghost use Rattle.std.specs.Prelude.{◌≡◌, ℕ, List, true, ◌+◌, ◌^◌, ◌<◌, ◌≤◌, ◌++◌, [], ◌∷◌, length, Some, None, Ok, IfOk};
+ghost use Rattle.std.specs.List.{list_all};
 ghost use Rattle.std.specs.Str.{IsCharBoundary};
+ghost use Rattle.cedar_text.specs.Escapes.{escaped};
 ghost use Rattle.cedar_text.specs.Failures.{IfRefused};
 ghost use Rattle.cedar_text.specs.NormalNames.{parts};
 ghost use Rattle.cedar_text.specs.Unescaping.{unescaped};
+ghost use Rattle.cedar_text.specs.Words.{is_word, is_unreserved_id};
 ghost use Rattle.cedar_text.specs.declared.fault.NameFault.TheVariants.{BadToken};
 ghost use Rattle.cedar_text.specs.declared.literal.Scan.TheVariants.{Closed};
-ghost use Rattle.cedar_text.specs.Literals.{scan_items, before_quote, opening_fault, escape_fault, literal_fault, ClosesLiteral};
+ghost use Rattle.cedar_text.specs.Literals.{scan_items, before_quote, opening_fault, escape_fault, literal_fault, ClosesLiteral, AreItemBytes, uid_with, uid_fault, WritesUid};
 
 use crate::fault::NameFault;
 use crate::form::{Parts, bad_token, scan_parts};
@@ -144,3 +147,11 @@ pub fn read_literal(alloc: Global, at: usize, inner: &str) -> Out<Text, NameFaul
         Scan::Closed(n) => read_closed(alloc, at, inner, n),
     }
 }
+
+/// The law that words, `::` and a literal are an entity, of these words and of the id that the literal stands for; so
+/// what is printed of an entity is read back. It does nothing.
+pub fn literal_makes_an_entity()
+    ensures fault { (w : List ℕ) (ws : List (List ℕ)) (body id : List ℕ) → list_all is_unreserved_id (w ∷ ws) ≡ true → AreItemBytes body → unescaped body ≡ Ok id → uid_fault (uid_with (w ∷ ws) body) ≡ None }
+    ensures printed { (w : List ℕ) (ws : List (List ℕ)) (id : List ℕ) → list_all is_unreserved_id (w ∷ ws) ≡ true → (uid_fault (uid_with (w ∷ ws) (escaped id)) ≡ None) × WritesUid (uid_with (w ∷ ws) (escaped id)) (w ∷ ws) id }
+    ensures once { (s w v : List ℕ) (ws vs : List (List ℕ)) (id text : List ℕ) → list_all is_word (w ∷ ws) ≡ true → list_all is_word (v ∷ vs) ≡ true → WritesUid s (w ∷ ws) id → WritesUid s (v ∷ vs) text → (w ∷ ws ≡ v ∷ vs) × (id ≡ text) }
+{}
