@@ -5,13 +5,13 @@ use Rattle.std.proofs.lemmas.Slice.Eq.{bytes_eq-Decides}
 use Rattle.std.specs.BTreeMap.{is_at}
 use Rattle.std.specs.Cmp.Lexicographic.{texts_ties}
 use Rattle.cedar_data.specs.Maps.{get, Puts}
+use Rattle.cedar_text.specs.Places.{span_of}
 use Rattle.cedar_text.specs.declared.location.Span.{Span}
 use Rattle.cedar_text.specs.declared.node.Node.{Node}
 use Rattle.cedar_names.specs.Annotating.{any_cmp}
 use Rattle.cedar_names.specs.Identifiers.{any_word}
 use Rattle.cedar_names.specs.declared.any_id.AnyId.{AnyId}
 use Rattle.cedar_tree.specs.Annotating.{Written, keys_written, place_of, repeat_behind, repeat_in, repeat_or}
-use Rattle.cedar_tree.specs.Faults.{span_of}
 
 -- the place at each key is that of the first key with its word
 abbrev pub HavePlaces : List (AnyId × Span) → List (Node AnyId) → Type 0

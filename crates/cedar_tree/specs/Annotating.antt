@@ -6,9 +6,9 @@ use Rattle.cedar_names.specs.Annotating.{any_cmp}
 use Rattle.cedar_names.specs.Identifiers.{any_word}
 use Rattle.cedar_names.specs.declared.annotation.Annotation.{Annotation}
 use Rattle.cedar_names.specs.declared.any_id.AnyId.{AnyId}
+use Rattle.cedar_text.specs.Places.{span_of}
 use Rattle.cedar_text.specs.declared.location.Span.{Span}
 use Rattle.cedar_text.specs.declared.node.Node.{Node}
-use Rattle.cedar_tree.specs.Faults.{span_of}
 use Rattle.cedar_tree.specs.declared.parse_error.UserError.{UserError}
 use Rattle.cedar_tree.specs.declared.parse_error.UserError.TheVariants.{DuplicateAnnotations}
 

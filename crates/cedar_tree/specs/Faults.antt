@@ -2,7 +2,7 @@
 use Rattle.std.specs.Prelude.{ℕ, List, [], ◌∷◌, ◌++◌, Option, Some, None, codes, option_to_list}
 use Rattle.cedar_names.specs.Identifiers.{any_word}
 use Rattle.cedar_text.specs.Lists.{elements}
-use Rattle.cedar_text.specs.declared.location.Loc.{Loc}
+use Rattle.cedar_text.specs.Places.{span_of}
 use Rattle.cedar_text.specs.declared.location.Span.{Span}
 use Rattle.cedar_tree.specs.declared.parse_error.UserError.{UserError}
 use Rattle.cedar_tree.specs.declared.parse_error.UserError.TheVariants.{EmptyList, StringEscape, ReservedIdentifierUsed, DuplicateAnnotations}
@@ -31,10 +31,6 @@ kind_text (TooDeep span) = codes "type or bracket nesting is too deep"
 abbrev pub span_at : ℕ → Span
 span_at location = record { start = location; end = location }
 
--- a place without its text
-abbrev pub span_of : Loc → Span
-span_of loc = record { start = loc.start; end = loc.end }
-
 -- the place to show of a broken rule
 abbrev pub user_span : UserError → Span
 user_span (EmptyList span) = span
@@ -60,6 +56,10 @@ user_second (EmptyList span) = None
 user_second (StringEscape span escape) = None
 user_second (ReservedIdentifierUsed word) = None
 user_second (DuplicateAnnotations key first second) = Some second
+
+-- all places of a broken rule: both of a key that stands twice, and else the one to show
+abbrev pub user_spans : UserError → List Span
+user_spans error = user_span error ∷ option_to_list (user_second error)
 
 abbrev pub kind_second : ParseErrorKind → Option Span
 kind_second (User error) = user_second error

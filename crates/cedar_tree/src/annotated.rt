@@ -43,10 +43,7 @@ pub fn deduplicate_annotations<T: Drop>(
             node: (key, value),
             loc,
         } = annotation;
-        let place = Span {
-            start: key.loc.start,
-            end: key.loc.end,
-        };
+        let place = key.loc.span();
         if let Some(first) = places.get(&key.node) {
             return Err(Failure::Refused(UserError::DuplicateAnnotations(key.node, *first, place)));
         }

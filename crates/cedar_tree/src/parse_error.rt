@@ -1,7 +1,7 @@
 // SPDX-License-Identifier: Apache-2.0
-ghost use Rattle.std.specs.Prelude.{◌≡◌, [], ◌∷◌, None, Some, IfOk, MatchOption};
+ghost use Rattle.std.specs.Prelude.{◌≡◌, [], ◌∷◌, ◌++◌, None, Some, IfOk, OnOk, MatchOption, option_to_list};
 ghost use Rattle.cedar_text.specs.Lists.{elements, elements_left};
-ghost use Rattle.cedar_tree.specs.Faults.{user_span, user_text, kind_text, primary_span, second_span, error_spans, all_spans, error_list, first_kind};
+ghost use Rattle.cedar_tree.specs.Faults.{user_span, user_second, user_spans, user_text, kind_text, primary_span, second_span, error_spans, all_spans, error_list, first_kind};
 
 use cedar_data::{Dup, Items, Mem, Text};
 use cedar_names::{AnyId, BadEscape, Node, NonEmpty, NonEmptyIter, Span};
@@ -60,13 +60,48 @@ impl UserError {
         match self {
             UserError::EmptyList(span) => *span,
             UserError::StringEscape(span, _) => *span,
-            UserError::ReservedIdentifierUsed(word) => Span {
-                start: word.loc.start,
-                end: word.loc.end,
-            },
+            UserError::ReservedIdentifierUsed(word) => word.loc.span(),
             UserError::DuplicateAnnotations(_, first, _) => *first,
         }
     }
+
+    /// The later place of a key that stands twice.
+    fn second_span(&self) -> Option<Span>
+        ensures { result ≡ user_second self.now }
+    {
+        match self {
+            UserError::DuplicateAnnotations(_, _, second) => Some(*second),
+            _ => None,
+        }
+    }
+
+    /// What to do about the error: there is nothing to say.
+    pub fn help(&self, _alloc: Global) -> Mem<Option<String>>
+        ensures { IfOk result (λ help. help ≡ None) }
+    {
+        Ok(None)
+    }
+
+    /// The places of the error: the one to show, and for a key that stands twice the later one behind it. It fails only
+    /// for want of memory.
+    pub fn spans(&self, alloc: Global) -> Mem<Vec<Span>>
+        ensures { IfOk result (λ spans. spans.items ≡ user_spans self.now) }
+    {
+        let mut spans = Vec::new(alloc);
+        add_spans(&mut spans, self.primary_span(), self.second_span())?;
+        Ok(spans)
+    }
+}
+
+/// Adds the places of an error to `spans`: the one to show, and the later one behind it where there are two.
+fn add_spans(spans: &mut Vec<Span>, primary: Span, second: Option<Span>) -> Mem<()>
+    ensures { OnOk result (spans.new.items ≡ spans.old.items ++ primary ∷ option_to_list second) }
+{
+    spans.push(primary)?;
+    if let Some(second) = second {
+        spans.push(second)?;
+    }
+    Ok(())
 }
 
 impl ParseError {
@@ -103,10 +138,7 @@ impl ParseError {
         ensures { IfOk result (λ spans. spans.items ≡ error_spans self.now) }
     {
         let mut spans = Vec::new(alloc);
-        spans.push(self.primary_source_span())?;
-        if let Some(second) = self.second_span() {
-            spans.push(second)?;
-        }
+        self.add_spans(&mut spans)?;
         Ok(spans)
     }
 
@@ -115,9 +147,16 @@ impl ParseError {
         ensures { result ≡ second_span self.now }
     {
         match &self.kind {
-            ParseErrorKind::User(UserError::DuplicateAnnotations(_, _, second)) => Some(*second),
+            ParseErrorKind::User(error) => error.second_span(),
             _ => None,
         }
+    }
+
+    /// Adds the places of the error to `spans`.
+    fn add_spans(&self, spans: &mut Vec<Span>) -> Mem<()>
+        ensures { OnOk result (spans.new.items ≡ spans.old.items ++ error_spans self.now) }
+    {
+        add_spans(spans, self.primary_source_span(), self.second_span())
     }
 }
 
@@ -170,12 +209,9 @@ impl ParseErrors {
     pub fn spans(&self, alloc: Global) -> Mem<Vec<Span>>
         ensures { IfOk result (λ spans. spans.items ≡ all_spans (error_list self.now)) }
     {
-        let mut spans = self.errors.head.spans(alloc)?;
-        for error in self.errors.tail.as_slice() {
-            spans.push(error.primary_source_span())?;
-            if let Some(second) = error.second_span() {
-                spans.push(second)?;
-            }
+        let mut spans = Vec::new(alloc);
+        for error in self.iter() {
+            error.add_spans(&mut spans)?;
         }
         Ok(spans)
     }
