@@ -148,10 +148,3 @@ literal_of bs n u e =
       items = w.items;
       is = ap (λ xs. 34 ∷ xs) (ap (λ m. take m bs) w.len ∙ ap (take (length front + 1)) w.is ∙ take-append-add front (34 ∷ w.after) 1);
     }
-
--- the bytes of a literal may be cut behind its first quote
-pub cut_behind_first : (s : List ℕ) → IsUtf8 s → IsLiteral s → IsCharBoundary s 1
-cut_behind_first s u w =
-    let some : 0 < length s = omega (arith, ap length w.is) in
-    let quote : get_or s 0 0 ≡ 34 = ap (λ xs. get_or xs 0 0) w.is in
-    IsCharBoundary-after_ascii s 0 u some (omega (arith, quote))

@@ -4,16 +4,26 @@ ghost use Rattle.cedar_tokens.specs.Standing.{StandsIn};
 ghost use Rattle.cedar_tokens.specs.Lexemes.{text_token, lexeme_token};
 
 use crate::token::{Token, TokenKind};
-use cedar_data::Mem;
+use cedar_data::{Dup, Mem};
 use std::alloc::Global;
 
 /// A token, with the part of the text that it takes.
 #[derive(Clone, Copy, Debug)]
 pub struct Lexeme<'a> {
+    /// What the token is.
     pub kind: TokenKind,
+    /// The bytes of the text from `start` to `end`, a literal with its quotes.
     pub text: &'a str,
+    /// The byte offset in the text at which it starts.
     pub start: usize,
+    /// The byte offset in the text behind its last byte.
     pub end: usize,
+}
+
+impl<'a> Dup for Lexeme<'a> {
+    fn dup(&self, _alloc: Global) -> Mem<Lexeme<'a>> {
+        Ok(*self)
+    }
 }
 
 /// The tokens of a text, each with its part of the text.

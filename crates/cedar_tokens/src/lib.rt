@@ -12,5 +12,5 @@ pub use lexeme::{Lexeme, lexemes};
 pub use lexer::{
     longest_token, one_place, one_token_list, tokens, tokens_or_place, tokens_without_place,
 };
-pub use literal::{literal_body, literal_closes};
+pub use literal::literal_closes;
 pub use token::{NoToken, Token, TokenKind};

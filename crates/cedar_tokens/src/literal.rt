@@ -1,6 +1,6 @@
 // SPDX-License-Identifier: Apache-2.0
-ghost use Rattle.std.specs.Prelude.{◌≡◌, ◌≤◌, ◌↔◌, ◌++◌, ℕ, false, List, length, chars, codes, Some, IfSome};
-ghost use Rattle.cedar_tokens.specs.Literals.{closed_len, Closes, IsLiteral};
+ghost use Rattle.std.specs.Prelude.{◌≡◌, ◌≤◌, ◌↔◌, ℕ, false, List, length, chars, Some, IfSome};
+ghost use Rattle.cedar_tokens.specs.Literals.{closed_len, Closes};
 
 /// How many bytes the items of a literal take together with the quote that closes it, behind the
 /// quote that opens it; none where it isn't closed.
@@ -25,14 +25,6 @@ pub fn closed_len(behind: &str) -> Option<usize>
         len += c.len_utf8();
     }
     None
-}
-
-/// What stands between the quotes of a literal.
-pub fn literal_body(literal: &str) -> &str
-    requires { IsLiteral literal.now }
-    ensures { literal.now ≡ codes "\"" ++ result.now ++ codes "\"" }
-{
-    &literal[1..literal.len() - 1]
 }
 
 /// A law with no work to do: what is found from the left is the length of items and a quote.

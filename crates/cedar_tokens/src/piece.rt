@@ -6,6 +6,7 @@ ghost use Rattle.cedar_tokens.specs.Pieces.{is_mark, is_not_line_end, mark_from,
 
 use crate::literal::closed_len;
 use crate::token::TokenKind;
+use cedar_text::is_word_byte;
 
 /// What stands at the front of a text, with its length in bytes.
 #[derive(Clone, Copy)]
@@ -25,13 +26,6 @@ fn is_word_start(c: char) -> bool
     ensures { result ≡ is_word_start c }
 {
     c.is_ascii_alphabetic() || c == '_'
-}
-
-/// Whether the byte may stand in a word.
-fn is_word_byte(byte: u8) -> bool
-    ensures { result ≡ is_word_byte byte }
-{
-    byte.is_ascii_alphanumeric() || byte == b'_'
 }
 
 /// How many bytes at the front may stand in a word.

@@ -2,6 +2,9 @@
 ghost use Rattle.std.specs.Prelude.{◌≡◌};
 ghost use Rattle.cedar_tokens.specs.Standing.{StandsIn, own_text};
 
+use cedar_data::{Dup, Mem};
+use std::alloc::Global;
+
 /// What a token is.
 #[derive(Clone, Copy, Debug, PartialEq, Eq)]
 pub enum TokenKind {
@@ -16,8 +19,11 @@ pub enum TokenKind {
 /// A token: what it is, and the byte offsets in the text at which it starts and ends.
 #[derive(Clone, Copy, Debug, PartialEq, Eq)]
 pub struct Token {
+    /// What the token is.
     pub kind: TokenKind,
+    /// The byte offset at which it starts, a boundary of characters.
     pub start: usize,
+    /// The byte offset behind its last byte, greater than `start`.
     pub end: usize,
 }
 
@@ -34,5 +40,24 @@ impl Token {
 /// No token begins at this byte offset of the text, and neither does a blank or a comment.
 #[derive(Clone, Copy, Debug, PartialEq, Eq)]
 pub struct NoToken {
+    /// The byte offset of the character that stands there, less than the length of the text.
     pub location: usize,
+}
+
+impl Dup for TokenKind {
+    fn dup(&self, _alloc: Global) -> Mem<TokenKind> {
+        Ok(*self)
+    }
+}
+
+impl Dup for Token {
+    fn dup(&self, _alloc: Global) -> Mem<Token> {
+        Ok(*self)
+    }
+}
+
+impl Dup for NoToken {
+    fn dup(&self, _alloc: Global) -> Mem<NoToken> {
+        Ok(*self)
+    }
 }
