@@ -12,7 +12,9 @@ use std::alloc::Global;
 /// An item with its annotations.
 #[derive(Debug, Drop, PartialEq, Eq, PartialOrd, Ord)]
 pub struct Annotated<T> {
+    /// The item. Its place, where it has one, leaves the annotations out.
     pub item: T,
+    /// The annotations, in the order of their keys; none where none is written.
     pub annotations: Annotations,
 }
 

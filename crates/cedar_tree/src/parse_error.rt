@@ -9,40 +9,66 @@ use std::alloc::Global;
 use std::error::Error;
 use std::fmt;
 
-/// Why a text in the right form is refused all the same.
+/// A rule that goes beyond the order of tokens, broken at the first token with which no schema goes on. It is told
+/// instead of that stray token. `deduplicate_annotations` answers it, too. Spans are in bytes of the text.
 #[derive(Debug, Drop, PartialEq, Eq)]
 pub enum UserError {
-    /// The list that stands here has to have an item.
+    /// The list of an `enum` has to have an item: the place of the `]` that closes it empty.
     EmptyList(Span),
-    /// The literal that stands here has this bad escape.
+    /// A string literal has a bad escape: the place of the literal with its quotes, and the leftmost bad escape, whose
+    /// offset counts in bytes from behind the opening quote.
     StringEscape(Span, BadEscape),
-    /// The word is reserved, and names nothing.
+    /// A reserved word stands where an identifier has to: the word at its place.
     ReservedIdentifierUsed(Node<Text>),
-    /// The key stands at both places, the first of them before the second.
+    /// A key repeats one of its annotation list: the key, the place of the first that has this word, and the place of
+    /// the repeat. Where a parser tells it, the places are of the words without `@`, the first before the second.
     DuplicateAnnotations(AnyId, Span, Span),
 }
 
-/// What is wrong with a text that is no schema.
+/// What is wrong with a text that is no schema. Offsets and spans are in bytes of the text.
 #[derive(Debug, Drop, PartialEq, Eq)]
 pub enum ParseErrorKind {
-    /// No token begins at this byte offset.
-    InvalidToken { location: usize },
-    /// The text ends here, and a schema would go on.
-    UnrecognizedEof { location: usize },
-    /// A schema goes on otherwise than by this token.
-    UnrecognizedToken { span: Span, token: Text },
-    /// The schema ends before this token.
-    ExtraToken { span: Span, token: Text },
-    /// The form is right, and a rule on what stands in it is broken.
+    /// No token begins here, and neither does a blank nor a comment.
+    InvalidToken {
+        /// The byte offset of the character at which none begins.
+        location: usize,
+    },
+    /// The text ends, and a schema would go on.
+    UnrecognizedEof {
+        /// The length of the text in bytes.
+        location: usize,
+    },
+    /// A schema goes on otherwise than by this token, and no rule of `User` is broken by it.
+    UnrecognizedToken {
+        /// The place of the token.
+        span: Span,
+        /// The token as it is written, a literal with its quotes.
+        token: Text,
+    },
+    /// A token behind the end of a schema. The parser never answers it, since a schema may always go on; it is kept for
+    /// those who match on it.
+    ExtraToken {
+        /// The place of the token.
+        span: Span,
+        /// The token as it is written, a literal with its quotes.
+        token: Text,
+    },
+    /// A rule that goes beyond the order of tokens is broken, and this is told instead of the stray token.
     User(UserError),
-    /// Types or brackets nest too deep here.
-    TooDeep { span: Span },
+    /// Types or brackets nest too deep.
+    TooDeep {
+        /// The place of the first bracket that is one too many, a single byte, or else of the first outermost type that
+        /// nests too deep.
+        span: Span,
+    },
 }
 
 /// What is wrong with a text that is no schema, and the text.
 #[derive(Debug, Drop, PartialEq, Eq)]
 pub struct ParseError {
+    /// What is wrong, and where.
     pub kind: ParseErrorKind,
+    /// The whole text that was parsed.
     pub src: Text,
 }
 

@@ -32,7 +32,9 @@ pub type PathIntoIter = IntoIter<Node<Id>>;
 /// The id of an entity, behind the path of its type where one is given.
 #[derive(Debug, Drop, PartialEq, Eq)]
 pub struct QualName {
+    /// The path of the type; none where the id stands alone.
     pub path: Option<Path>,
+    /// The id: what a string literal stands for, or a word that stands alone. It may be empty.
     pub eid: Text,
 }
 

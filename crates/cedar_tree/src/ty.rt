@@ -7,14 +7,17 @@ use cedar_data::{Boxed, Dup, Items, Mem, Text};
 use cedar_names::Node;
 use std::alloc::Global;
 
-/// The names of the types that are built in.
+/// The names of the types that are built in, each once.
 pub const BUILTIN_TYPES: [&str; 3] = ["Long", "String", "Bool"];
 
 /// A type that is built in.
 #[derive(Clone, Copy, Debug, PartialEq, Eq)]
 pub enum PrimitiveType {
+    /// `Long`: whole numbers of 64 bits, with a sign.
     Long,
+    /// `String`: texts.
     String,
+    /// `Bool`: true or false.
     Bool,
 }
 
@@ -22,8 +25,12 @@ pub enum PrimitiveType {
 #[cycle(ty)]
 #[derive(Debug, Drop, PartialEq, Eq)]
 pub enum Type {
+    /// `Set<..>`: the type of the elements, at its place between `<` and `>`.
     Set(Boxed<Node<Type>>),
+    /// The name of a type, one that is built in too.
     Ident(Path),
+    /// `{..}`: the attributes in the order of the text, a repeated name included; none for `{}`. The place of each runs
+    /// from its name to the end of its type, without annotations.
     Record(Items<Node<Annotated<AttrDecl>>>),
 }
 
@@ -31,8 +38,11 @@ pub enum Type {
 #[cycle(ty)]
 #[derive(Debug, Drop, PartialEq, Eq)]
 pub struct AttrDecl {
+    /// The name: a word, or what a string literal stands for. The place of a literal takes in its quotes.
     pub name: Node<Text>,
+    /// Whether each record has the attribute: false where `?` stands behind the name.
     pub required: bool,
+    /// The type, at its place.
     pub ty: Node<Type>,
 }
 
