@@ -1,6 +1,6 @@
 // SPDX-License-Identifier: Apache-2.0
-use cedar_data::{Failure, Mem, NoMemory};
-use cedar_tokens::{Token, TokenKind, tokens};
+use cedar_data::{Dup, Failure, Mem, NoMemory};
+use cedar_tokens::{Lexeme, NoToken, Token, TokenKind, tokens};
 use std::alloc::Global;
 use std::test::Fail;
 
@@ -76,5 +76,34 @@ fn placed(rt: HostRuntime) -> Result<(), Fail> {
     for (token, (kind, start, end)) in found.iter().zip(wanted) {
         assert_eq!(rt; *token, Token { kind, start, end });
     }
+    Ok(())
+}
+
+#[test]
+fn copied(rt: HostRuntime) -> Result<(), Fail> {
+    let alloc = rt.alloc();
+    for kind in [TokenKind::Word, TokenKind::Str, TokenKind::Punct] {
+        let token = Token {
+            kind,
+            start: 1,
+            end: 3,
+        };
+        assert_eq!(rt; kind.dup(alloc)?, kind);
+        assert_eq!(rt; token.dup(alloc)?, token);
+        let text = "ab";
+        let lexeme = Lexeme {
+            kind,
+            text,
+            start: 1,
+            end: 3,
+        };
+        let copy = lexeme.dup(alloc)?;
+        assert_eq!(rt; copy.kind, kind);
+        assert_eq!(rt; copy.text, text);
+        assert_eq!(rt; copy.start, 1);
+        assert_eq!(rt; copy.end, 3);
+    }
+    let none = NoToken { location: 7 };
+    assert_eq!(rt; none.dup(alloc)?, none);
     Ok(())
 }
