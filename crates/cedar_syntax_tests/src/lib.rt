@@ -3,9 +3,15 @@
 #![tactic(auto)]
 
 #[cfg(test)]
+mod error_calls;
+#[cfg(test)]
 mod keyword_rows;
 #[cfg(test)]
 mod limit_rows;
+#[cfg(test)]
+mod name_calls;
+#[cfg(test)]
+mod parsed;
 #[cfg(test)]
 mod place_rows;
 #[cfg(test)]
@@ -13,4 +19,8 @@ mod telling;
 #[cfg(test)]
 mod text_rows;
 #[cfg(test)]
+mod token_calls;
+#[cfg(test)]
 mod tree_calls;
+#[cfg(test)]
+mod tree_copies;

@@ -1,30 +1,12 @@
 // SPDX-License-Identifier: Apache-2.0
-use cedar_data::{Failure, Items};
-use cedar_names::{Loc, Node};
+use crate::parsed::{at, first_decl, parsed};
+use cedar_data::Items;
+use cedar_names::Node;
 use cedar_syntax::{
-    ActionDecl, Annotated, AppDecl, AttrDecl, Declaration, EntityDecl, EnumEntityDecl, Schema,
-    StandardEntityDecl, Type, TypeDecl, parse_schema,
+    ActionDecl, AppDecl, AttrDecl, Declaration, EntityDecl, EnumEntityDecl, Schema,
+    StandardEntityDecl, Type, TypeDecl,
 };
-use std::alloc::Global;
 use std::test::Fail;
-
-fn parsed(alloc: Global, text: &str) -> Result<Schema, Fail> {
-    match parse_schema(alloc, text) {
-        Ok(schema) => Ok(schema),
-        Err(Failure::Refused(_)) => Err("refused".into()),
-        Err(Failure::NoMemory) => Err("no memory".into()),
-    }
-}
-
-/// The part of the text at a place.
-fn at(loc: &Loc) -> &str {
-    loc.snippet().unwrap_or("no place")
-}
-
-/// The first declaration of the first namespace.
-fn first_decl(schema: &Schema) -> Option<&Annotated<Node<Declaration>>> {
-    schema.get(0)?.item.decls.get(0)
-}
 
 fn standard(schema: &Schema) -> Option<&StandardEntityDecl> {
     match &first_decl(schema)?.item.node {

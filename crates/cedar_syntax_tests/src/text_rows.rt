@@ -1,6 +1,17 @@
 // SPDX-License-Identifier: Apache-2.0
 use crate::telling::told;
+use std::alloc::Global;
+use std::process::Abort;
 use std::test::Fail;
+
+/// Compares what is said of each text with what is wanted.
+fn compare(rt: &impl Abort, alloc: Global, rows: &[(&str, &str)]) -> Result<(), Fail> {
+    for (text, wanted) in rows {
+        let answer = told(alloc, text)?;
+        assert_eq!(rt; answer.as_str(), *wanted, "of {text:?}");
+    }
+    Ok(())
+}
 
 #[test]
 fn invalid_tokens(rt: HostRuntime) -> Result<(), Fail> {
@@ -15,12 +26,9 @@ fn invalid_tokens(rt: HostRuntime) -> Result<(), Fail> {
         ("entity A; #", "no token at 10"),
         ("// é\n é", "no token at 7"),
         ("entity A\u{0};", "no token at 8"),
+        ("1", "no token at 0"),
     ];
-    for (text, wanted) in rows {
-        let answer = told(rt.alloc(), text)?;
-        assert_eq!(rt; answer.as_str(), wanted, "of {text:?}");
-    }
-    Ok(())
+    compare(&rt, rt.alloc(), rows.as_slice())
 }
 
 #[test]
@@ -40,12 +48,63 @@ fn ends(rt: HostRuntime) -> Result<(), Fail> {
         ("entity A in A::", "ends at 15"),
         ("action a in A::B::", "ends at 18"),
         (" // x\r\nentity", "ends at 13"),
+        ("@a entity A; @a", "ends at 15"),
     ];
-    for (text, wanted) in rows {
-        let answer = told(rt.alloc(), text)?;
-        assert_eq!(rt; answer.as_str(), wanted, "of {text:?}");
-    }
-    Ok(())
+    compare(&rt, rt.alloc(), rows.as_slice())
+}
+
+#[test]
+fn strays_of_entity_types(rt: HostRuntime) -> Result<(), Fail> {
+    let rows = [
+        ("entity A; ;", "10..11 strays `;`"),
+        ("entity A in [B,];", "15..16 strays `]`"),
+        ("entity A enum [\"a\",];", "19..20 strays `]`"),
+        ("entity A : : B;", "9..10 strays `:`"),
+        ("entity A in B: :C;", "13..14 strays `:`"),
+        ("entity A in B::\"x\";", "15..18 strays `\"x\"`"),
+        ("entity A in [A] enum [\"x\"];", "16..20 strays `enum`"),
+        ("entity A enum \"x\";", "14..17 strays `\"x\"`"),
+        ("entity \"A\";", "7..10 strays `\"A\"`"),
+        ("entity A =; ", "10..11 strays `;`"),
+    ];
+    compare(&rt, rt.alloc(), rows.as_slice())
+}
+
+#[test]
+fn strays_of_attributes(rt: HostRuntime) -> Result<(), Fail> {
+    let rows = [
+        ("entity E { a: Set< };", "19..20 strays `}`"),
+        ("entity E { a: Set<> };", "18..19 strays `>`"),
+        ("entity E { a: Set<Long };", "23..24 strays `}`"),
+        ("entity E { a: Set::T<Long> };", "20..21 strays `<`"),
+        ("entity E {,};", "10..11 strays `,`"),
+        ("entity E { a: Long,, };", "19..20 strays `,`"),
+        ("entity E { a:: Long };", "12..14 strays `::`"),
+        ("entity E { a?: Long, b??: Long };", "23..24 strays `?`"),
+        ("entity A tags Long { };", "19..20 strays `{`"),
+        ("entity A == { };", "10..11 strays `=`"),
+        ("entity A { }; = ;", "14..15 strays `=`"),
+    ];
+    compare(&rt, rt.alloc(), rows.as_slice())
+}
+
+#[test]
+fn strays_of_actions(rt: HostRuntime) -> Result<(), Fail> {
+    let rows = [
+        ("action a in true::\"x\";", "16..18 strays `::`"),
+        ("action a appliesTo {};", "20..21 strays `}`"),
+        ("action a in [b c];", "15..16 strays `c`"),
+        ("action a attributes { x };", "22..23 strays `x`"),
+        (
+            "action a appliesTo { principal: A } in b;",
+            "36..38 strays `in`",
+        ),
+        (
+            "action a appliesTo { context: Set<Long> };",
+            "33..34 strays `<`",
+        ),
+    ];
+    compare(&rt, rt.alloc(), rows.as_slice())
 }
 
 #[test]
@@ -53,61 +112,20 @@ fn strays(rt: HostRuntime) -> Result<(), Fail> {
     let rows = [
         ("{}", "0..1 strays `{`"),
         ("true::\"x\"", "0..4 strays `true`"),
-        ("action a in true::\"x\";", "16..18 strays `::`"),
-        ("entity A; ;", "10..11 strays `;`"),
-        ("entity A in [B,];", "15..16 strays `]`"),
-        ("entity A enum [\"a\",];", "19..20 strays `]`"),
-        ("entity E { a: Set };", "a schema"),
-        ("entity E { a: Set< };", "19..20 strays `}`"),
-        ("entity E { a: Set<> };", "18..19 strays `>`"),
-        ("entity E { a: Set<Long };", "23..24 strays `}`"),
-        ("entity E { a: Set::T<Long> };", "20..21 strays `<`"),
-        ("action a appliesTo {};", "20..21 strays `}`"),
-        ("entity E {,};", "10..11 strays `,`"),
-        ("entity E { a: Long,, };", "19..20 strays `,`"),
-        ("entity A : : B;", "9..10 strays `:`"),
-        ("entity A in B: :C;", "13..14 strays `:`"),
-        ("entity A in B::\"x\";", "15..18 strays `\"x\"`"),
-        ("action a in [b c];", "15..16 strays `c`"),
         ("type T = \"x\";", "9..12 strays `\"x\"`"),
         ("type T, U = Long;", "6..7 strays `,`"),
         ("namespace N; ", "11..12 strays `;`"),
         ("namespace \"N\" {}", "10..13 strays `\"N\"`"),
         ("}", "0..1 strays `}`"),
-        ("entity E { a:: Long };", "12..14 strays `::`"),
-        ("entity E { a?: Long, b??: Long };", "23..24 strays `?`"),
-        ("entity A tags Long { };", "19..20 strays `{`"),
-        ("entity A in [A] enum [\"x\"];", "16..20 strays `enum`"),
-        ("action a attributes { };", "a schema"),
-        ("action a attributes { x };", "22..23 strays `x`"),
-        (
-            "action a appliesTo { principal: A } in b;",
-            "36..38 strays `in`",
-        ),
-        ("entity A enum \"x\";", "14..17 strays `\"x\"`"),
-        (
-            "action a appliesTo { context: Set<Long> };",
-            "33..34 strays `<`",
-        ),
-        ("@a entity A; @a", "ends at 15"),
-        ("entity \"A\";", "7..10 strays `\"A\"`"),
-        ("entity A == { };", "10..11 strays `=`"),
-        ("entity A =; ", "10..11 strays `;`"),
-        ("1", "no token at 0"),
         ("@\"a\" entity A;", "1..4 strays `\"a\"`"),
         ("@a() entity A;", "3..4 strays `)`"),
         ("@a(b) entity A;", "3..4 strays `b`"),
-        ("entity A { }; = ;", "14..15 strays `=`"),
         (
             "namespace N { namespace M {} }",
             "14..23 strays `namespace`",
         ),
     ];
-    for (text, wanted) in rows {
-        let answer = told(rt.alloc(), text)?;
-        assert_eq!(rt; answer.as_str(), wanted, "of {text:?}");
-    }
-    Ok(())
+    compare(&rt, rt.alloc(), rows.as_slice())
 }
 
 #[test]
@@ -122,6 +140,13 @@ fn reserved(rt: HostRuntime) -> Result<(), Fail> {
         ("entity is;", "7..9 reserved `is`"),
         ("entity like;", "7..11 reserved `like`"),
         ("entity has;", "7..10 reserved `has`"),
+    ];
+    compare(&rt, rt.alloc(), rows.as_slice())
+}
+
+#[test]
+fn reserved_by_place(rt: HostRuntime) -> Result<(), Fail> {
+    let rows = [
         ("entity A in in;", "12..14 reserved `in`"),
         ("entity A, true;", "10..14 reserved `true`"),
         ("entity A in [B, like];", "16..20 reserved `like`"),
@@ -147,11 +172,7 @@ fn reserved(rt: HostRuntime) -> Result<(), Fail> {
         ("entity A tags true;", "14..18 reserved `true`"),
         ("action a in A::in::\"x\";", "15..17 reserved `in`"),
     ];
-    for (text, wanted) in rows {
-        let answer = told(rt.alloc(), text)?;
-        assert_eq!(rt; answer.as_str(), wanted, "of {text:?}");
-    }
-    Ok(())
+    compare(&rt, rt.alloc(), rows.as_slice())
 }
 
 #[test]
@@ -174,11 +195,7 @@ fn literals(rt: HostRuntime) -> Result<(), Fail> {
         ("entity \"\\q\";", "7..11 strays `\"\\q\"`"),
         ("entity A in \"\\q\";", "12..16 strays `\"\\q\"`"),
     ];
-    for (text, wanted) in rows {
-        let answer = told(rt.alloc(), text)?;
-        assert_eq!(rt; answer.as_str(), wanted, "of {text:?}");
-    }
-    Ok(())
+    compare(&rt, rt.alloc(), rows.as_slice())
 }
 
 #[test]
@@ -191,11 +208,7 @@ fn lists(rt: HostRuntime) -> Result<(), Fail> {
         ("@a entity F enum [ // x\n ];", "25..26 empty list"),
         ("entity enum [];", "12..13 strays `[`"),
     ];
-    for (text, wanted) in rows {
-        let answer = told(rt.alloc(), text)?;
-        assert_eq!(rt; answer.as_str(), wanted, "of {text:?}");
-    }
-    Ok(())
+    compare(&rt, rt.alloc(), rows.as_slice())
 }
 
 #[test]
@@ -224,11 +237,7 @@ fn repeated(rt: HostRuntime) -> Result<(), Fail> {
             "13..14 repeats `a` of 1..2",
         ),
     ];
-    for (text, wanted) in rows {
-        let answer = told(rt.alloc(), text)?;
-        assert_eq!(rt; answer.as_str(), wanted, "of {text:?}");
-    }
-    Ok(())
+    compare(&rt, rt.alloc(), rows.as_slice())
 }
 
 #[test]
@@ -236,6 +245,16 @@ fn accepted(rt: HostRuntime) -> Result<(), Fail> {
     let rows = [
         ("", "a schema"),
         ("// x", "a schema"),
+        ("@doc namespace A::B { @x(\"y\") entity C; }", "a schema"),
+        ("type T = { \"a\"?: Set<{ b: A::B }> };", "a schema"),
+        ("@in @true entity A;", "a schema"),
+    ];
+    compare(&rt, rt.alloc(), rows.as_slice())
+}
+
+#[test]
+fn accepted_entity_types(rt: HostRuntime) -> Result<(), Fail> {
+    let rows = [
         ("entity A; // x", "a schema"),
         ("entity A; // x\r entity B;", "a schema"),
         ("entity\u{2028}A;", "a schema"),
@@ -245,6 +264,29 @@ fn accepted(rt: HostRuntime) -> Result<(), Fail> {
         ("entity enum enum [\"enum\"];", "a schema"),
         ("entity Set; entity E { s: Set };", "a schema"),
         ("entity A in [];", "a schema"),
+        (
+            "entity E { in: Long, \"in\": Long, entity: Long };",
+            "a schema",
+        ),
+        ("entity type; type namespace = appliesTo;", "a schema"),
+        ("entity __cedar; entity E { x: __cedar::Long };", "a schema"),
+        ("entity A { @a @b x: Long, @a y: Long };", "a schema"),
+        ("entity A enum [\"a\rb\"];", "a schema"),
+        ("entity A,B;", "a schema"),
+        (
+            "entity namespace; namespace namespace { entity namespace; }",
+            "a schema",
+        ),
+        ("entity tags tags tags; type tags = Long;", "a schema"),
+        ("entity A{x:Long}tags Long;", "a schema"),
+        ("entity E { a: Set };", "a schema"),
+    ];
+    compare(&rt, rt.alloc(), rows.as_slice())
+}
+
+#[test]
+fn accepted_actions(rt: HostRuntime) -> Result<(), Fail> {
+    let rows = [
         ("action a in [];", "a schema"),
         ("action a, b in [c, A::\"d\", \"e\"];", "a schema"),
         (
@@ -253,37 +295,16 @@ fn accepted(rt: HostRuntime) -> Result<(), Fail> {
         ),
         ("action a appliesTo { principal: A };", "a schema"),
         ("action a attributes {};", "a schema"),
-        ("@doc namespace A::B { @x(\"y\") entity C; }", "a schema"),
-        ("type T = { \"a\"?: Set<{ b: A::B }> };", "a schema"),
-        (
-            "entity E { in: Long, \"in\": Long, entity: Long };",
-            "a schema",
-        ),
         ("action in, true, principal;", "a schema"),
         ("action a in in;", "a schema"),
         ("action a in true;", "a schema"),
-        ("@in @true entity A;", "a schema"),
-        ("entity type; type namespace = appliesTo;", "a schema"),
-        ("entity __cedar; entity E { x: __cedar::Long };", "a schema"),
-        ("entity A { @a @b x: Long, @a y: Long };", "a schema"),
         ("action \"\\u{1F600}\\n\\x7f\";", "a schema"),
-        ("entity A enum [\"a\rb\"];", "a schema"),
-        ("entity A,B;", "a schema"),
         (
             "action a appliesTo { context: T, resource: [A, B::C] };",
             "a schema",
         ),
-        (
-            "entity namespace; namespace namespace { entity namespace; }",
-            "a schema",
-        ),
         ("action action; action entity in action;", "a schema"),
-        ("entity tags tags tags; type tags = Long;", "a schema"),
-        ("entity A{x:Long}tags Long;", "a schema"),
+        ("action a attributes { };", "a schema"),
     ];
-    for (text, wanted) in rows {
-        let answer = told(rt.alloc(), text)?;
-        assert_eq!(rt; answer.as_str(), wanted, "of {text:?}");
-    }
-    Ok(())
+    compare(&rt, rt.alloc(), rows.as_slice())
 }

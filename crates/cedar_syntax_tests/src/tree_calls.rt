@@ -1,5 +1,5 @@
 // SPDX-License-Identifier: Apache-2.0
-use cedar_data::{Failure, Mem, Text};
+use cedar_data::{Dup, Failure, Mem, Text};
 use cedar_names::{AnyId, Id, InternalName, Loc, Node, Span};
 use cedar_syntax::{
     Annotated, PR, ParseError, ParseErrorKind, ParseErrors, Path, QualName, UserError,
@@ -44,6 +44,9 @@ fn paths_are_split(rt: HostRuntime) -> Result<(), Fail> {
     let (namespace, basename) = path(alloc)?.split_last();
     assert_eq!(rt; basename.as_ref(), "baz");
     assert_eq!(rt; namespace.len(), 2);
+    for (id, word) in namespace.iter().zip(["foo", "bar"]) {
+        assert_eq!(rt; id.as_ref(), word);
+    }
     let name = InternalName::from(path(alloc)?);
     assert_eq!(rt; name.to_string(alloc)?.as_str(), "foo::bar::baz");
     let single = Path::single(alloc, id(alloc, "__cedar")?, place(alloc, 0, 2)?);
@@ -115,6 +118,32 @@ fn other_keys_are_kept(rt: HostRuntime) -> Result<(), Fail> {
     assert_eq!(rt; annotations.iter().count(), 2);
     let value = annotations.get("a").ok_or("no annotation")?;
     assert_eq!(rt; value.val.as_str(), "");
+    Ok(())
+}
+
+/// The annotation `@a("x")` of `entity @a("x")`.
+fn valued(alloc: Global) -> Result<Node<(Node<AnyId>, Option<Node<Text>>)>, Fail> {
+    let src = Text::new(alloc, "entity @a(\"x\")")?;
+    let key = AnyId::new(alloc, "a")?.ok_or("no word")?;
+    let key = Node::with_source_loc(key, Loc::new(8, 9, src.dup(alloc)?));
+    let value = Text::new(alloc, "x")?;
+    let value = Node::with_source_loc(value, Loc::new(10, 13, src.dup(alloc)?));
+    Ok(Node::with_source_loc((key, Some(value)), Loc::new(7, 14, src)))
+}
+
+#[test]
+fn values_are_kept(rt: HostRuntime) -> Result<(), Fail> {
+    let alloc = rt.alloc();
+    let mut annotations = Vec::new(alloc);
+    annotations.push(valued(alloc)?)?;
+    let Ok(annotated) = deduplicate_annotations(alloc, 1u32, annotations) else {
+        return Err("refused".into());
+    };
+    assert_eq!(rt; annotated.annotations.iter().count(), 1);
+    let meant = annotated.annotations.get("a").ok_or("no annotation")?;
+    assert_eq!(rt; meant.val.as_str(), "x");
+    let place = meant.loc.as_ref().ok_or("no place")?;
+    assert_eq!(rt; place.snippet(), Some("@a(\"x\")"));
     Ok(())
 }
 
