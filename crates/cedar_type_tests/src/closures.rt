@@ -1,6 +1,6 @@
 // SPDX-License-Identifier: Apache-2.0
 use crate::vertex::Vertex;
-use cedar_data::{Failure, Mem};
+use cedar_data::{Dup, Failure, Mem};
 use cedar_types::{TcError, TcNode, compute_tc};
 use std::alloc::Global;
 use std::collections::BTreeMap;
@@ -96,6 +96,17 @@ fn errors_are_shown(rt: HostRuntime) -> Result<(), Fail> {
     assert_eq!(rt; cycle.to_string(alloc)?.as_str(), "cycle containing `12`");
     let missing: TcError<u32> = TcError::MissingTcEdge { vertex: 3 };
     assert_eq!(rt; missing.to_string(alloc)?.as_str(), "missing edge at `3`");
+    Ok(())
+}
+
+#[test]
+fn errors_are_copied(rt: HostRuntime) -> Result<(), Fail> {
+    let alloc = rt.alloc();
+    let cycle: TcError<u32> = TcError::HasCycle { vertex: 12 };
+    assert_eq!(rt; cycle.dup(alloc)?, cycle);
+    let missing: TcError<u32> = TcError::MissingTcEdge { vertex: 12 };
+    assert_eq!(rt; missing.dup(alloc)?, missing);
+    assert!(rt; missing != cycle);
     Ok(())
 }
 

@@ -1,0 +1,71 @@
+// SPDX-License-Identifier: Apache-2.0
+use cedar_data::{Dup, Text};
+use cedar_types::{AttributeType, Attributes, OpenTag, Type, TypeView};
+use std::alloc::Global;
+use std::test::Fail;
+
+/// The set of sets of `Long`.
+fn sets(alloc: Global) -> Result<Type, Fail> {
+    let set = Type::set(alloc, Type::primitive_long())?;
+    Ok(Type::set(alloc, set)?)
+}
+
+#[test]
+fn sets_have_their_element(rt: HostRuntime) -> Result<(), Fail> {
+    let alloc = rt.alloc();
+    let ty = sets(alloc)?;
+    let TypeView::Set(element) = ty.view() else {
+        return Err("no set".into());
+    };
+    assert_eq!(rt; *element, Type::set(alloc, Type::primitive_long())?);
+    let TypeView::Set(element) = element.view() else {
+        return Err("no set".into());
+    };
+    assert_eq!(rt; *element, Type::primitive_long());
+    assert_eq!(rt; ty.dup(alloc)?, ty);
+    Ok(())
+}
+
+#[test]
+fn any_record_lists_nothing(rt: HostRuntime) -> Result<(), Fail> {
+    let alloc = rt.alloc();
+    let any = Type::any_record(alloc)?;
+    let TypeView::Record(attributes, tag) = any.view() else {
+        return Err("no record".into());
+    };
+    assert_eq!(rt; attributes.len(), 0);
+    assert_eq!(rt; tag, OpenTag::OpenAttributes);
+    assert_eq!(rt; any.dup(alloc)?, any);
+    Ok(())
+}
+
+/// The record of an attribute `a` of these sets, which may be absent.
+fn record(alloc: Global, tag: OpenTag) -> Result<Type, Fail> {
+    let attribute = AttributeType {
+        attr_type: sets(alloc)?,
+        is_required: false,
+    };
+    let mut list = Vec::new(alloc);
+    list.push((Text::new(alloc, "a")?, attribute))?;
+    let attributes = Attributes::with_attributes(alloc, list)?;
+    Ok(Type::record_with_attributes(alloc, attributes, tag)?)
+}
+
+#[test]
+fn records_are_copied(rt: HostRuntime) -> Result<(), Fail> {
+    let alloc = rt.alloc();
+    let open = record(alloc, OpenTag::OpenAttributes)?;
+    let closed = record(alloc, OpenTag::ClosedAttributes)?;
+    assert_eq!(rt; open.dup(alloc)?, open);
+    assert_eq!(rt; closed.dup(alloc)?, closed);
+    assert!(rt; open != closed);
+    Ok(())
+}
+
+#[test]
+fn tags_are_copied(rt: HostRuntime) -> Result<(), Fail> {
+    for tag in [OpenTag::OpenAttributes, OpenTag::ClosedAttributes] {
+        assert_eq!(rt; tag.dup(rt.alloc())?, tag);
+    }
+    Ok(())
+}
