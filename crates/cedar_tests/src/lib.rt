@@ -7,6 +7,8 @@
 mod faults;
 pub mod outcome;
 #[cfg(test)]
+mod plain_calls;
+#[cfg(test)]
 mod rows;
 #[cfg(test)]
 mod schema_calls;

@@ -3,7 +3,38 @@ use crate::outcome::run_on;
 use cedar_data::Mem;
 use cedar_schema_tool::Status;
 use std::alloc::Global;
+use std::process::Abort;
 use std::test::Fail;
+
+/// Whether a text is accepted with this listing, and nothing else is printed.
+fn is_listed(alloc: Global, input: &str, listing: &str) -> Mem<bool> {
+    let outcome = run_on(alloc, "resolve", input.as_bytes())?;
+    let is_done = outcome.status == Status::Done && outcome.err.is_empty();
+    Ok(is_done && outcome.out.as_slice() == listing.as_bytes())
+}
+
+/// Sees that each text is accepted with its listing.
+pub fn list_each(rt: &impl Abort, alloc: Global, rows: &[(&str, &str)]) -> Result<(), Fail> {
+    for (input, listing) in rows {
+        assert!(rt; is_listed(alloc, input, listing)?, "listing of {input:?}");
+    }
+    Ok(())
+}
+
+/// Whether a text is refused with this text, and nothing else is printed.
+pub fn is_refused(alloc: Global, input: &str, text: &str) -> Mem<bool> {
+    let outcome = run_on(alloc, "resolve", input.as_bytes())?;
+    let is_refused = outcome.status == Status::Refused && outcome.out.is_empty();
+    Ok(is_refused && outcome.err.as_slice() == text.as_bytes())
+}
+
+/// Sees that each text is refused with its text.
+fn refuse_each(rt: &impl Abort, alloc: Global, rows: &[(&str, &str)]) -> Result<(), Fail> {
+    for (input, text) in rows {
+        assert!(rt; is_refused(alloc, input, text)?, "refusal of {input:?}");
+    }
+    Ok(())
+}
 
 #[test]
 fn accepted(rt: HostRuntime) -> Result<(), Fail> {
@@ -27,20 +58,7 @@ fn accepted(rt: HostRuntime) -> Result<(), Fail> {
             "entity E descendants [] attributes {\"in\": String, \"true\": Long}\n",
         ),
     ];
-    for (input, listing) in rows {
-        assert!(rt;
-            is_listed(rt.alloc(), input, listing)?,
-            "listing of {input:?}"
-        );
-    }
-    Ok(())
-}
-
-/// Whether a text is accepted with this listing, and nothing else is printed.
-pub fn is_listed(alloc: Global, input: &str, listing: &str) -> Mem<bool> {
-    let outcome = run_on(alloc, "resolve", input.as_bytes())?;
-    let is_done = outcome.status == Status::Done && outcome.err.is_empty();
-    Ok(is_done && outcome.out.as_slice() == listing.as_bytes())
+    list_each(&rt, rt.alloc(), rows.as_slice())
 }
 
 #[test]
@@ -60,13 +78,7 @@ fn memberships(rt: HostRuntime) -> Result<(), Fail> {
         ),
         ("entity A in A;", "entity A descendants [A] attributes {}\n"),
     ];
-    for (input, listing) in rows {
-        assert!(rt;
-            is_listed(rt.alloc(), input, listing)?,
-            "listing of {input:?}"
-        );
-    }
-    Ok(())
+    list_each(&rt, rt.alloc(), rows.as_slice())
 }
 
 #[test]
@@ -81,19 +93,12 @@ fn actions(rt: HostRuntime) -> Result<(), Fail> {
             "entity action descendants [] attributes {}\naction Action::\"action\" descendants [] principals [] resources [] context {}\n",
         ),
     ];
-    for (input, listing) in rows {
-        assert!(rt;
-            is_listed(rt.alloc(), input, listing)?,
-            "listing of {input:?}"
-        );
-    }
-    Ok(())
+    list_each(&rt, rt.alloc(), rows.as_slice())
 }
 
 #[test]
-fn refused(rt: HostRuntime) -> Result<(), Fail> {
+fn no_schema(rt: HostRuntime) -> Result<(), Fail> {
     let rows = [
-        ("entity A; type T = A;", "error: not built yet\n"),
         (
             "entity A {",
             "error: error parsing schema: unexpected end of input\n",
@@ -101,86 +106,6 @@ fn refused(rt: HostRuntime) -> Result<(), Fail> {
         (
             "entity in;",
             "error: error parsing schema: `in` is a reserved identifier\n",
-        ),
-        ("entity Action;", "error: not built yet\n"),
-        ("entity Long;", "error: not built yet\n"),
-        ("entity ipaddr;", "error: not built yet\n"),
-        ("entity E { a: ipaddr };", "error: not built yet\n"),
-        (
-            "entity A; entity B; entity A; entity B;",
-            "error: error parsing schema: `A` is declared twice\n",
-        ),
-        (
-            "entity B; entity A; entity A; entity B;",
-            "error: error parsing schema: `A` is declared twice\n",
-        ),
-        (
-            "entity E { a: Boolean };",
-            "error: failed to resolve type: Boolean\nhelp: `Boolean` has not been declared as a common or entity type\n",
-        ),
-        (
-            "entity F { z: X, b: Set<Y> }; entity E { a: E, b: Z };",
-            "error: failed to resolve types: Z, Y\nhelp: `Z` has not been declared as a common or entity type\n",
-        ),
-        (
-            "entity A; entity A; entity E { a: Missing };",
-            "error: error parsing schema: `A` is declared twice\n",
-        ),
-    ];
-    for (input, text) in rows {
-        assert!(rt;
-            is_refused(rt.alloc(), input, text)?,
-            "refusal of {input:?}"
-        );
-    }
-    Ok(())
-}
-
-/// Whether a text is refused with this text, and nothing else is printed.
-pub fn is_refused(alloc: Global, input: &str, text: &str) -> Mem<bool> {
-    let outcome = run_on(alloc, "resolve", input.as_bytes())?;
-    let is_refused = outcome.status == Status::Refused && outcome.out.is_empty();
-    Ok(is_refused && outcome.err.as_slice() == text.as_bytes())
-}
-
-#[test]
-fn refused_memberships(rt: HostRuntime) -> Result<(), Fail> {
-    let rows = [
-        (
-            "entity A in [X, Y] { a: Z }; action b in q;",
-            "error: failed to resolve types: X, Y\nhelp: `X` has not been declared as an entity type\n",
-        ),
-        (
-            "entity A { a: Z }; entity B in [Long, A, X, X];",
-            "error: failed to resolve types: Z, Long, X, X\nhelp: `Z` has not been declared as a common or entity type\n",
-        ),
-        (
-            "action a in z;",
-            "error: undeclared action: Action::\"z\"\nhelp: any actions appearing as parents need to be declared as actions\n",
-        ),
-        (
-            "action b in [z, b, y]; action a in [x, b]; action b1 in b1;",
-            "error: undeclared actions: Action::\"x\", Action::\"z\", and Action::\"y\"\nhelp: any actions appearing as parents need to be declared as actions\n",
-        ),
-        (
-            "action a in [z, a, y];",
-            "error: undeclared actions: Action::\"z\" and Action::\"y\"\nhelp: any actions appearing as parents need to be declared as actions\n",
-        ),
-        (
-            "action a in b; action b in a;",
-            "error: cycle in action hierarchy containing `Action::\"a\"`\n",
-        ),
-        (
-            "action a in c; action c in d; action d in c; action z in z;",
-            "error: cycle in action hierarchy containing `Action::\"c\"`\n",
-        ),
-        (
-            "action a; action b; action b; action a; entity E; entity E;",
-            "error: error parsing schema: `E` is declared twice\n",
-        ),
-        (
-            "action a, b, a; entity E in X;",
-            "error: error parsing schema: `a` is declared twice\n",
         ),
         (
             "entity A in in;",
@@ -195,13 +120,103 @@ fn refused_memberships(rt: HostRuntime) -> Result<(), Fail> {
             "error: error parsing schema: unexpected token `{`\n",
         ),
     ];
-    for (input, text) in rows {
-        assert!(rt;
-            is_refused(rt.alloc(), input, text)?,
-            "refusal of {input:?}"
-        );
-    }
-    Ok(())
+    refuse_each(&rt, rt.alloc(), rows.as_slice())
+}
+
+#[test]
+fn not_built(rt: HostRuntime) -> Result<(), Fail> {
+    let rows = [
+        ("entity A; type T = A;", "error: not built yet\n"),
+        ("entity Action;", "error: not built yet\n"),
+        ("entity Long;", "error: not built yet\n"),
+        ("entity ipaddr;", "error: not built yet\n"),
+        ("entity E { a: ipaddr };", "error: not built yet\n"),
+    ];
+    refuse_each(&rt, rt.alloc(), rows.as_slice())
+}
+
+#[test]
+fn declared_twice(rt: HostRuntime) -> Result<(), Fail> {
+    let rows = [
+        (
+            "entity A; entity B; entity A; entity B;",
+            "error: error parsing schema: `A` is declared twice\n",
+        ),
+        (
+            "entity B; entity A; entity A; entity B;",
+            "error: error parsing schema: `A` is declared twice\n",
+        ),
+        (
+            "entity A; entity A; entity E { a: Missing };",
+            "error: error parsing schema: `A` is declared twice\n",
+        ),
+        (
+            "action a; action b; action b; action a; entity E; entity E;",
+            "error: error parsing schema: `E` is declared twice\n",
+        ),
+        (
+            "action a, b, a; entity E in X;",
+            "error: error parsing schema: `a` is declared twice\n",
+        ),
+    ];
+    refuse_each(&rt, rt.alloc(), rows.as_slice())
+}
+
+#[test]
+fn missing_types(rt: HostRuntime) -> Result<(), Fail> {
+    let rows = [
+        (
+            "entity E { a: Boolean };",
+            "error: failed to resolve type: Boolean\nhelp: `Boolean` has not been declared as a common or entity type\n",
+        ),
+        (
+            "entity F { z: X, b: Set<Y> }; entity E { a: E, b: Z };",
+            "error: failed to resolve types: Z, Y\nhelp: `Z` has not been declared as a common or entity type\n",
+        ),
+        (
+            "entity A in [X, Y] { a: Z }; action b in q;",
+            "error: failed to resolve types: X, Y\nhelp: `X` has not been declared as an entity type\n",
+        ),
+        (
+            "entity A { a: Z }; entity B in [Long, A, X, X];",
+            "error: failed to resolve types: Z, Long, X, X\nhelp: `Z` has not been declared as a common or entity type\n",
+        ),
+    ];
+    refuse_each(&rt, rt.alloc(), rows.as_slice())
+}
+
+#[test]
+fn missing_actions(rt: HostRuntime) -> Result<(), Fail> {
+    let rows = [
+        (
+            "action a in z;",
+            "error: undeclared action: Action::\"z\"\nhelp: any actions appearing as parents need to be declared as actions\n",
+        ),
+        (
+            "action b in [z, b, y]; action a in [x, b]; action b1 in b1;",
+            "error: undeclared actions: Action::\"x\", Action::\"z\", and Action::\"y\"\nhelp: any actions appearing as parents need to be declared as actions\n",
+        ),
+        (
+            "action a in [z, a, y];",
+            "error: undeclared actions: Action::\"z\" and Action::\"y\"\nhelp: any actions appearing as parents need to be declared as actions\n",
+        ),
+    ];
+    refuse_each(&rt, rt.alloc(), rows.as_slice())
+}
+
+#[test]
+fn cycles(rt: HostRuntime) -> Result<(), Fail> {
+    let rows = [
+        (
+            "action a in b; action b in a;",
+            "error: cycle in action hierarchy containing `Action::\"a\"`\n",
+        ),
+        (
+            "action a in c; action c in d; action d in c; action z in z;",
+            "error: cycle in action hierarchy containing `Action::\"c\"`\n",
+        ),
+    ];
+    refuse_each(&rt, rt.alloc(), rows.as_slice())
 }
 
 #[test]
@@ -242,23 +257,5 @@ fn limits(rt: HostRuntime) -> Result<(), Fail> {
     assert_eq!(rt; outcome.status, Status::TooLong);
     let outcome = run_on(rt.alloc(), "resolve", &[0x65, 0xFF])?;
     assert_eq!(rt; outcome.status, Status::NotUtf8);
-    Ok(())
-}
-
-#[test]
-fn nesting(rt: HostRuntime) -> Result<(), Fail> {
-    for (sets, status) in [(127usize, Status::Done), (128, Status::Refused)] {
-        let mut text = String::from_str(rt.alloc(), "entity E { a: ")?;
-        for _ in 0..sets {
-            text.push_str("Set<")?;
-        }
-        text.push_str("Long")?;
-        for _ in 0..sets {
-            text.push_str(">")?;
-        }
-        text.push_str(" };")?;
-        let outcome = run_on(rt.alloc(), "resolve", text.as_bytes())?;
-        assert_eq!(rt; outcome.status, status, "{sets} sets");
-    }
     Ok(())
 }

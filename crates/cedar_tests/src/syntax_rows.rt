@@ -1,6 +1,6 @@
 // SPDX-License-Identifier: Apache-2.0
 use crate::outcome::run_on;
-use crate::rows::{is_listed, is_refused};
+use crate::rows::{is_refused, list_each};
 use cedar_data::Mem;
 use cedar_schema_tool::Status;
 use std::alloc::Global;
@@ -78,13 +78,7 @@ fn accepted(rt: HostRuntime) -> Result<(), Fail> {
             "action Action::\"a\" descendants [] principals [] resources [] context {}\n",
         ),
     ];
-    for (input, listing) in rows {
-        assert!(rt;
-            is_listed(rt.alloc(), input, listing)?,
-            "listing of {input:?}"
-        );
-    }
-    Ok(())
+    list_each(&rt, rt.alloc(), rows.as_slice())
 }
 
 #[test]
@@ -98,6 +92,8 @@ fn not_built(rt: HostRuntime) -> Result<(), Fail> {
         "entity E { a?: Long };",
         "entity E { a: { b: Long } };",
         "entity E { a: A::B };",
+        "entity E { a: A::B, a: Long };",
+        "entity E { a?: Long, a: Long };",
         "entity E in A::B;",
         "action a in [A::\"b\"];",
         "action a in \"b\";",
