@@ -11,13 +11,7 @@ is refused as soon as the text is parsed, so that its time is that of reading th
 text, its tokens and its tree. The last column says how much a byte of the long
 text costs, a byte of the short one being 1.
 """
-import os
-import subprocess
-import sys
-import tempfile
-
-TOP = os.path.dirname(os.path.dirname(os.path.abspath(__file__)))
-LIMIT = 4194304
+from measure import LIMIT, best_of_three, print_head, program_to_time, written
 
 
 def repeated(piece, size):
@@ -78,33 +72,16 @@ FORMS = [("every form", every_form), ("comments", comments), ("one type, many at
          ("one declaration, many annotations", annotated), ("a stray last token", stray)]
 
 
-def run(program, path):
-    """Processor seconds and peak memory in MB of one run."""
-    with open(path, "rb") as source, open(os.devnull, "wb") as out:
-        child = subprocess.Popen([program, "resolve"], stdin=source, stdout=out, stderr=out)
-        _, status, usage = os.wait4(child.pid, 0)
-    child.returncode = os.waitstatus_to_exitcode(status)
-    if child.returncode not in (0, 1):
-        sys.exit(f"{program} ended with status {child.returncode}")
-    return usage.ru_utime + usage.ru_stime, usage.ru_maxrss / 1024
-
-
 def measured(program, text):
-    with tempfile.NamedTemporaryFile(suffix=".cedarschema") as source:
-        source.write(text.encode())
-        source.flush()
-        rows = [run(program, source.name) for _ in range(3)]
-    return min(row[0] for row in rows), max(row[1] for row in rows)
+    """The best of three runs; a form that isn't resolved yet is refused, which is no fault here."""
+    with written(text) as path:
+        return best_of_three(program, path, statuses=(0, 1))
 
 
 def main():
-    program = sys.argv[1] if len(sys.argv) > 1 else None
-    if program is None:
-        built = subprocess.run([os.path.join(TOP, "joistginger"), "--where"],
-                               stdout=subprocess.PIPE, check=True)
-        program = built.stdout.decode().strip()
-    print("| text | bytes | seconds (processor) | peak MB | bytes | seconds (processor) | peak MB | cost of a byte |")
-    print("|---|---|---|---|---|---|---|---|")
+    program = program_to_time()
+    print_head("text", "bytes", "seconds (processor)", "peak MB",
+               "bytes", "seconds (processor)", "peak MB", "cost of a byte")
     for name, form in FORMS:
         short, long = form(LIMIT // 10), form(LIMIT)
         little, small = measured(program, short)

@@ -9,13 +9,9 @@ the top builds. Each row is the best of three runs. The first table has declarat
 of five attributes, by their number; the second has memberships, by the number of
 pairs of a type and one that descends from it, which the listing writes.
 """
-import os
 import subprocess
-import sys
-import tempfile
 
-TOP = os.path.dirname(os.path.dirname(os.path.abspath(__file__)))
-LIMIT = 4194304
+from measure import LIMIT, best_of_three, print_head, program_to_time, written
 
 
 def declaration(i, n):
@@ -36,19 +32,6 @@ def full_schema():
         if len(text) <= LIMIT:
             return n, text + " " * (LIMIT - len(text))
         n -= 1 + (len(text) - LIMIT) // 120
-
-
-def run(program, path):
-    """Seconds and peak memory in MB of one run."""
-    with open(path, "rb") as source, open(os.devnull, "wb") as out:
-        child = subprocess.Popen([program, "resolve"], stdin=source, stdout=out)
-        start = os.times()
-        _, status, usage = os.wait4(child.pid, 0)
-        end = os.times()
-    child.returncode = os.waitstatus_to_exitcode(status)
-    if child.returncode != 0:
-        sys.exit(f"{program} ended with status {child.returncode}")
-    return end.elapsed - start.elapsed, usage.ru_utime + usage.ru_stime, usage.ru_maxrss / 1024
 
 
 def members(pairs):
@@ -86,22 +69,13 @@ def closure_size(program, path):
     return size
 
 
-def best_of_three(program, path):
-    """The least processor seconds and the greatest peak memory of three runs."""
-    rows = [run(program, path) for _ in range(3)]
-    return min(row[1] for row in rows), max(row[2] for row in rows)
-
-
 def print_declarations(program):
     cases = [(n, schema(n)) for n in (1000, 10000)]
     cases.append(full_schema())
-    print("| declarations | bytes | seconds (processor) | peak MB | us per declaration |")
-    print("|---|---|---|---|---|")
+    print_head("declarations", "bytes", "seconds (processor)", "peak MB", "us per declaration")
     for n, text in cases:
-        with tempfile.NamedTemporaryFile(suffix=".cedarschema") as source:
-            source.write(text.encode())
-            source.flush()
-            seconds, memory = best_of_three(program, source.name)
+        with written(text) as path:
+            seconds, memory = best_of_three(program, path)
         print(f"| {n} | {len(text)} | {seconds:.3f} | {memory:.0f} | {1e6 * seconds / n:.2f} |")
 
 
@@ -110,24 +84,17 @@ def print_memberships(program):
              ("a binary tree of 20,000", tree(20000)),
              ("a chain of 2,000", chain(2000)),
              ("a cycle of 2,000", cycle(2000))]
-    print("| entity types | pairs of the closure | seconds (processor) | peak MB | us per type and pair |")
-    print("|---|---|---|---|---|")
+    print_head("entity types", "pairs of the closure", "seconds (processor)", "peak MB", "us per type and pair")
     for name, text in cases:
-        with tempfile.NamedTemporaryFile(suffix=".cedarschema") as source:
-            source.write(text.encode())
-            source.flush()
-            size = closure_size(program, source.name)
-            seconds, memory = best_of_three(program, source.name)
+        with written(text) as path:
+            size = closure_size(program, path)
+            seconds, memory = best_of_three(program, path)
         each = 1e6 * seconds / (size + text.count("\n"))
         print(f"| {name} | {size} | {seconds:.3f} | {memory:.0f} | {each:.2f} |")
 
 
 def main():
-    program = sys.argv[1] if len(sys.argv) > 1 else None
-    if program is None:
-        built = subprocess.run([os.path.join(TOP, "joistginger"), "--where"],
-                               stdout=subprocess.PIPE, check=True)
-        program = built.stdout.decode().strip()
+    program = program_to_time()
     print_declarations(program)
     print()
     print_memberships(program)

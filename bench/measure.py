@@ -1,0 +1,49 @@
+# SPDX-License-Identifier: Apache-2.0
+"""What the timings share: the program, a text in a file, and the best of three runs on it."""
+import contextlib
+import os
+import subprocess
+import sys
+import tempfile
+
+TOP = os.path.dirname(os.path.dirname(os.path.abspath(__file__)))
+LIMIT = 4194304
+
+
+def program_to_time():
+    """The program that is named on the command line, or else the one that `joistginger` builds."""
+    if len(sys.argv) > 1:
+        return sys.argv[1]
+    built = subprocess.run([os.path.join(TOP, "joistginger"), "--where"], stdout=subprocess.PIPE, check=True)
+    return built.stdout.decode().strip()
+
+
+@contextlib.contextmanager
+def written(text):
+    """The path of a file that holds the text."""
+    with tempfile.NamedTemporaryFile(suffix=".cedarschema") as source:
+        source.write(text.encode())
+        source.flush()
+        yield source.name
+
+
+def run(program, path, statuses):
+    """Processor seconds and peak memory in MB of one `resolve`, which has to end with one of these statuses."""
+    with open(path, "rb") as source, open(os.devnull, "wb") as out:
+        child = subprocess.Popen([program, "resolve"], stdin=source, stdout=out, stderr=out)
+        _, status, usage = os.wait4(child.pid, 0)
+    child.returncode = os.waitstatus_to_exitcode(status)
+    if child.returncode not in statuses:
+        sys.exit(f"{program} ended with status {child.returncode}")
+    return usage.ru_utime + usage.ru_stime, usage.ru_maxrss / 1024
+
+
+def best_of_three(program, path, statuses=(0,)):
+    """The least processor seconds and the greatest peak memory of three runs."""
+    rows = [run(program, path, statuses) for _ in range(3)]
+    return min(row[0] for row in rows), max(row[1] for row in rows)
+
+
+def print_head(*columns):
+    print("| " + " | ".join(columns) + " |")
+    print("|---" * len(columns) + "|")
