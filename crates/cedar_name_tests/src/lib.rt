@@ -4,6 +4,8 @@
 #![tactic(auto)]
 
 #[cfg(test)]
+mod copies;
+#[cfg(test)]
 mod data_calls;
 #[cfg(test)]
 mod entity_uids;
@@ -14,4 +16,8 @@ mod fault_calls;
 #[cfg(test)]
 mod name_calls;
 #[cfg(test)]
+mod own_calls;
+#[cfg(test)]
 mod qualified_names;
+#[cfg(test)]
+mod refusals;
