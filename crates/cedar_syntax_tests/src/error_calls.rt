@@ -35,6 +35,17 @@ fn broken_rules_are_copied(rt: HostRuntime) -> Result<(), Fail> {
 }
 
 #[test]
+fn broken_rules_have_places(rt: HostRuntime) -> Result<(), Fail> {
+    let alloc = rt.alloc();
+    let key = repeated(alloc)?;
+    assert!(rt; key.help(alloc)?.is_none());
+    assert_eq!(rt; key.spans(alloc)?.as_slice(), [FIRST, SECOND].as_slice());
+    let list = UserError::EmptyList(SECOND);
+    assert_eq!(rt; list.spans(alloc)?.as_slice(), [SECOND].as_slice());
+    Ok(())
+}
+
+#[test]
 fn reserved_words_are_copied(rt: HostRuntime) -> Result<(), Fail> {
     let alloc = rt.alloc();
     let error = reserved(alloc)?;
