@@ -9,13 +9,20 @@ use std::alloc::Global;
 /// have the same parents, and all entity types the same attributes.
 #[derive(Debug, Drop, PartialEq, Eq)]
 pub enum PlainDecl {
+    /// Entity types.
     Entity {
+        /// Their names.
         names: Items<Id>,
+        /// The entity types that they are members of.
         parents: Items<Id>,
+        /// The names of their attributes, each with its type. A name may stand more than once.
         attrs: Items<(Text, PlainType)>,
     },
+    /// Actions.
     Action {
+        /// Their names.
         names: Items<Text>,
+        /// The actions that they are members of.
         parents: Items<Text>,
     },
 }
@@ -23,7 +30,9 @@ pub enum PlainDecl {
 /// The type of an attribute: a name, or the set of a type.
 #[derive(Debug, Drop, PartialEq, Eq)]
 pub enum PlainType {
+    /// The type of this name.
     Name(Id),
+    /// The set of this type.
     Set(Boxed<PlainType>),
 }
 

@@ -20,6 +20,7 @@ pub struct StdSink<W> {
 }
 
 impl<W: Write> StdSink<W> {
+    /// A sink into this writer, which hasn't failed yet.
     pub fn new(inner: W) -> StdSink<W>
         ensures inner { sink_inner result ≡ inner }
         ensures faults { sink_faults result ≡ 0 }
@@ -35,6 +36,7 @@ impl<W: Write> StdSink<W> {
         &mut self.inner
     }
 
+    /// The writer.
     pub fn into_inner(self) -> W
         ensures { result ≡ sink_inner self }
     {

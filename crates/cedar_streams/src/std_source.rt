@@ -17,6 +17,7 @@ pub struct StdSource<R> {
 }
 
 impl<R: Read> StdSource<R> {
+    /// A source of what this reader gives, which hasn't failed yet.
     pub fn new(inner: R) -> StdSource<R>
         ensures inner { source_inner result ≡ inner }
         ensures faults { source_faults result ≡ 0 }

@@ -26,6 +26,7 @@ impl Model for SureSource {
 }
 
 impl SureSource {
+    /// A source of these bytes, from the first.
     pub fn new(bytes: Vec<u8>) -> SureSource
         ensures { result ≡ bytes.items }
     {

@@ -35,7 +35,9 @@ enum TypeNode {
 #[cycle(ty)]
 #[derive(Debug, Drop, PartialEq, Eq)]
 pub struct AttributeType {
+    /// The type of its values.
     pub attr_type: ResolvedType,
+    /// Whether each record or entity has it.
     pub is_required: bool,
 }
 
@@ -49,7 +51,9 @@ pub struct Attributes {
 /// Whether a record may have attributes beyond those that its type lists.
 #[derive(Clone, Copy, Debug, PartialEq, Eq)]
 pub enum OpenTag {
+    /// It may have others beside those listed.
     OpenAttributes,
+    /// It has only those listed.
     ClosedAttributes,
 }
 
@@ -59,12 +63,19 @@ pub type AttrIter<'a> = Iter<'a, Text, AttributeType>;
 /// A resolved type with its parts lent.
 #[derive(Clone, Copy, Debug)]
 pub enum TypeView<'a> {
+    /// The type `Bool`.
     Bool,
+    /// The type `Long`.
     Long,
+    /// The type `String`.
     String,
+    /// Sets of elements of this type.
     Set(&'a ResolvedType),
+    /// Records with these attributes, and whether they may have others.
     Record(&'a Attributes, OpenTag),
+    /// Entities of this entity type.
     Entity(&'a EntityType),
+    /// Values of the extension type of this name.
     Extension(&'a Name),
 }
 

@@ -70,7 +70,7 @@ word_of (SetOf element) = word_of element
 abbrev pub type_words : List (List ℕ × TypeTree) → List (List ℕ)
 type_words attributes = map (λ a. word_of a.1) attributes
 
--- the names that no declaration may have yet, whatever the extension types are
+-- the names that no entity type may have yet, whatever the extension types are; actions may have them
 abbrev pub kept_names : List (List ℕ)
 kept_names = codes "Action" ∷ codes "__cedar" ∷ primitive_words
 

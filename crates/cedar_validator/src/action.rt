@@ -42,6 +42,7 @@ impl ValidatorActionId {
         }
     }
 
+    /// The action as an entity.
     pub fn name(&self) -> &EntityUID
         ensures { result.now ≡ action_name self.now }
     {

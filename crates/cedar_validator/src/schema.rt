@@ -52,12 +52,14 @@ impl ValidatorEntityType {
         }
     }
 
+    /// The name of the entity type.
     pub fn name(&self) -> &EntityType
         ensures { result.now ≡ type_name self.now }
     {
         &self.name
     }
 
+    /// The attributes of its entities.
     pub fn attributes(&self) -> &Attributes
         ensures { result.now ≡ type_attributes self.now }
     {

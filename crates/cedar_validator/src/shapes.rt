@@ -20,7 +20,9 @@ use std::alloc::Global;
 /// The declared entity types and actions, each in the order of the text.
 #[derive(Drop)]
 pub struct DeclaredNames {
+    /// The entity types, each with its parents and attributes.
     pub entities: Vec<(UnreservedId, EntityShape)>,
+    /// The actions, each with its parents.
     pub actions: Vec<(Text, Parents)>,
 }
 

@@ -15,7 +15,9 @@ use std::alloc::Global;
 /// What is declared of an entity type: its parents in the order of the text, and its attributes by name.
 #[derive(Drop)]
 pub struct EntityShape {
+    /// The entity types that it is a member of, in the order of the text.
     pub parents: Shared<Items<Id>>,
+    /// The last type that stands at each attribute.
     pub attributes: Shared<Map<Text, PlainType>>,
 }
 
