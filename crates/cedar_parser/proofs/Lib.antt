@@ -1,7 +1,7 @@
 -- SPDX-License-Identifier: Apache-2.0
 pub mod Loops
 pub mod Chains
-pub mod Literals
+pub mod Quotes
 pub mod Commas
 pub mod Faults
 pub mod TypeTrees

@@ -1,8 +1,42 @@
 -- SPDX-License-Identifier: Apache-2.0
--- What readers find behind a piece of which the whole keeps the place or the name.
-use Rattle.std.specs.Prelude.{List, Some}
-use Rattle.cedar_grammar.specs.Reading.{Reader, ◌>>=◌, done, looped, braced_at, annots_at, app_at, decl_round, item_at}
-use Rattle.cedar_grammar.specs.Trees.{Node, Text, Path, TypeTree, Annotated, AppDecl, Namespace, placed, between}
+-- What readers find behind a piece of which the whole keeps the place, the name or what was read so far.
+use Rattle.std.specs.Prelude.{List, codes, Some, option_map}
+use Rattle.cedar_grammar.specs.Grammar.{shape_at, behind_record}
+use Rattle.cedar_grammar.specs.Reading.{Reader, ◌>>=◌, ◌>>◌, done, looped, expect, a_mark, braced_at, annots_at, one_or_list_at, ref_at, above_at, shape_reader, tags_at, app_at, applies_at, tail_at, decl_round, item_at}
+use Rattle.cedar_grammar.specs.Trees.{Node, Text, Path, TypeTree, Annotated, AppDecl, Standard, Entity, ActionDecl, Action, Declaration, Namespace, placed, between}
+
+-- what follows the parents of entity types
+unfoldable pub standard_rest : Reader (Node TypeTree) → Node Text → List (Node Text) → List Path → Reader (Node Declaration)
+standard_rest type entity ns parents = do
+  shape ← shape_reader type
+  tags ← tags_at type
+  semicolon ← expect (a_mark (codes ";"))
+  done (placed (Entity (Standard (record {
+    names = ns;
+    member_of_types = parents;
+    attrs = shape_at shape (behind_record tags semicolon.loc);
+    tags = option_map (λ p. p.1) tags;
+  }))) entity.loc semicolon.loc)
+
+-- the `{` and the `}` that follow `attributes`
+unfoldable pub braces_behind : Reader (Node Text)
+braces_behind = expect (a_mark (codes "{")) >> expect (a_mark (codes "}"))
+
+-- what follows what actions apply to
+unfoldable pub action_end : Node Text → ActionDecl → Reader (Node Declaration)
+action_end action decl = do
+  tail_at
+  semicolon ← expect (a_mark (codes ";"))
+  done (placed (Action decl) action.loc semicolon.loc)
+
+-- what follows the names of actions
+unfoldable pub action_rest : Reader (Node TypeTree) → Node Text → List (Node Text) → Reader (Node Declaration)
+action_rest type action ns = do
+  parents ← above_at (one_or_list_at ref_at)
+  applies ← applies_at type
+  tail_at
+  semicolon ← expect (a_mark (codes ";"))
+  done (placed (Action (record { names = ns; parents = parents; app_decls = applies })) action.loc semicolon.loc)
 
 -- what follows the `{` of what an action applies to
 unfoldable pub apps_behind : Reader (Node TypeTree) → Node Text → Reader (Node (List (Node AppDecl)))

@@ -8,9 +8,9 @@ ghost use Rattle.cedar_grammar.specs.Trees.{Annotations as Written};
 ghost use Rattle.cedar_parser.specs.Giving.{Gives, tokens_of, lexeme_node};
 ghost use Rattle.cedar_parser.specs.Keys.{HaveKeys, annotation_node};
 
-use crate::fault::Fault;
+use crate::fault::{Fault, stops_before};
 use crate::tokens::{Parser, Tokens};
-use cedar_data::{Dup, Failure, Out, Set, Text};
+use cedar_data::{Dup, Out, Set, Text};
 use cedar_names::{Annotation, Annotations, AnyId, Node};
 use cedar_tokens::{Lexeme, TokenKind};
 
@@ -76,15 +76,14 @@ impl<'s> Parser<'s> {
         ensures shorter { OnOk result (length tokens.new.rest.now < length tokens.old.rest.now) }
     {
         let rest = tokens.rest;
-        let left = rest.len();
         if rest.is_empty() || rest[0].kind != TokenKind::Word {
-            return Err(Failure::Refused(Fault { left }));
+            return Err(stops_before(rest));
         }
         let Some(node) = AnyId::new(self.alloc, rest[0].text)? else {
-            return Err(Failure::Refused(Fault { left }));
+            return Err(stops_before(rest));
         };
         if keys.contains(&node) {
-            return Err(Failure::Refused(Fault { left }));
+            return Err(stops_before(rest));
         }
         let loc = self.place(rest[0].start, rest[0].end)?;
         tokens.rest = &rest[1..];

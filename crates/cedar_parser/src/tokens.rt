@@ -8,7 +8,8 @@ ghost use Rattle.cedar_grammar.specs.Reading.{accepted, expect, a_keyword, a_mar
 ghost use Rattle.cedar_grammar.specs.Trees.{between};
 ghost use Rattle.cedar_parser.specs.Giving.{Gives, tokens_of, lexeme_node, place_from};
 
-use crate::fault::Fault;
+use crate::fault::{Fault, stops_before};
+use crate::literals::literal_body;
 use cedar_data::{Dup, Failure, Mem, NoMemory, Out, Text};
 use cedar_names::{Id, Loc, Node};
 use cedar_text::unescape;
@@ -89,9 +90,7 @@ impl<'s> Parser<'s> {
         ensures shorter { OnOk result (length tokens.new.rest.now < length tokens.old.rest.now) }
     {
         let Some(token) = self.accept_keyword(tokens, word) else {
-            return Err(Failure::Refused(Fault {
-                left: tokens.rest.len(),
-            }));
+            return Err(stops_before(tokens.rest));
         };
         Ok(token)
     }
@@ -103,9 +102,7 @@ impl<'s> Parser<'s> {
         ensures shorter { OnOk result (length tokens.new.rest.now < length tokens.old.rest.now) }
     {
         let Some(token) = self.accept_mark(tokens, mark) else {
-            return Err(Failure::Refused(Fault {
-                left: tokens.rest.len(),
-            }));
+            return Err(stops_before(tokens.rest));
         };
         Ok(token)
     }
@@ -137,25 +134,16 @@ impl<'s> Parser<'s> {
         ensures shorter { OnOk result (length tokens.new.rest.now < length tokens.old.rest.now) }
     {
         let Some(id) = self.accept_ident(tokens)? else {
-            return Err(Failure::Refused(Fault {
-                left: tokens.rest.len(),
-            }));
+            return Err(stops_before(tokens.rest));
         };
         Ok(id)
-    }
-
-    /// What stands between the quotes of a literal.
-    fn body<'b>(&self, text: &'b str) -> Option<&'b str>
-        ensures { option_map (λ body. body.now) result ≡ literal_body text.now }
-    {
-        text.strip_prefix('"')?.strip_suffix('"')
     }
 
     /// What a literal stands for, if its escapes are good.
     fn value(&self, text: &str) -> Mem<Option<Text>>
         ensures { IfOk result (λ value. value ≡ option_and_then text_of_body (literal_body text.now)) }
     {
-        let Some(body) = self.body(text) else {
+        let Some(body) = literal_body(text) else {
             return Ok(None);
         };
         match unescape(self.alloc, body) {
@@ -195,9 +183,7 @@ impl<'s> Parser<'s> {
         ensures shorter { OnOk result (length tokens.new.rest.now < length tokens.old.rest.now) }
     {
         let Some(text) = self.accept_literal(tokens)? else {
-            return Err(Failure::Refused(Fault {
-                left: tokens.rest.len(),
-            }));
+            return Err(stops_before(tokens.rest));
         };
         Ok(text)
     }
@@ -214,7 +200,7 @@ impl<'s> Parser<'s> {
         }
         let rest = tokens.rest;
         if rest.is_empty() || rest[0].kind != TokenKind::Word {
-            return Err(Failure::Refused(Fault { left: rest.len() }));
+            return Err(stops_before(rest));
         }
         let node = Text::new(self.alloc, rest[0].text)?;
         let loc = self.place(rest[0].start, rest[0].end)?;

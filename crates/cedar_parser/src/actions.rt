@@ -1,0 +1,250 @@
+// SPDX-License-Identifier: Apache-2.0
+ghost use Rattle.std.specs.Prelude.{◌≡◌, ℕ, ◌<◌, ◌≤◌, length, map, IfOk, OnOk, option_map};
+ghost use Rattle.cedar_text.specs.Lists.{elements};
+ghost use Rattle.cedar_grammar.specs.Meanings.{node_of, listed, path_tree, qual_tree, scope_tree, app_tree, action_tree, decl_tree};
+ghost use Rattle.cedar_grammar.specs.Reading.{above_at, one_or_list_at, ref_at, scope_behind, context_behind, app_at, applies_at, tail_at, action_behind, type_at};
+ghost use Rattle.cedar_grammar.specs.Trees.{Types, placed, stands};
+ghost use Rattle.cedar_parser.specs.Behind.{action_rest, action_end, apps_behind, braces_behind};
+ghost use Rattle.cedar_parser.specs.Giving.{Gives, tokens_of, lexeme_node};
+
+use crate::fault::Fault;
+use crate::lists::{Names, Paths, References};
+use crate::tokens::{Parser, Tokens};
+use cedar_data::{Mem, Out, Text};
+use cedar_names::{Node, NonEmpty};
+use cedar_tokens::Lexeme;
+use cedar_tree::{ActionDecl, AppDecl, ContextDecl, Declaration, PR, PRAppDecl, Path, QualName};
+
+impl<'s> Parser<'s> {
+    /// Takes the actions after `in`, if it stands next.
+    #[tactic(auto, unfolding(cedar_grammar::specs::Reading::above_at))]
+    fn actions_above(
+        &self,
+        tokens: &mut Tokens<'_, '_>,
+    ) -> Out<Option<NonEmpty<Node<QualName>>>, Fault>
+        ensures read { Gives (λ refs. map (node_of qual_tree) (listed refs)) (tokens_of self.now.source.now tokens.new.rest.now) result
+            (above_at (one_or_list_at ref_at) (tokens_of self.now.source.now tokens.old.rest.now)) }
+        ensures shorter { OnOk result (length tokens.new.rest.now ≤ length tokens.old.rest.now) }
+    {
+        if let Some(_) = self.accept_keyword(tokens, "in") {
+            let refs = self.one_or_list::<References>(tokens)?;
+            return Ok(refs.node);
+        }
+        Ok(None)
+    }
+
+    /// The types of this scope, from its word to their end.
+    fn scope_of(
+        &self,
+        keyword: Lexeme<'_>,
+        kind: PR,
+        types: Node<Option<NonEmpty<Path>>>,
+    ) -> Mem<Node<AppDecl>>
+        ensures { IfOk result (λ app. node_of app_tree app
+            ≡ placed (Types (stands (scope_tree kind) (lexeme_node self.now.source.now keyword.entry).loc) (map path_tree (listed types.node))) (lexeme_node self.now.source.now keyword.entry).loc types.loc) }
+    {
+        let which = self.place(keyword.start, keyword.end)?;
+        let loc = self.place(keyword.start, types.loc.end)?;
+        let decl = PRAppDecl {
+            kind: Node {
+                node: kind,
+                loc: which,
+            },
+            entity_tys: types.node,
+        };
+        Ok(Node {
+            node: AppDecl::PR(decl),
+            loc,
+        })
+    }
+
+    /// Takes what follows `principal` or `resource`.
+    #[tactic(auto, unfolding(cedar_grammar::specs::Reading::scope_behind, cedar_grammar::specs::Reading::types_at))]
+    fn scope<'a>(
+        &self,
+        tokens: &mut Tokens<'_, 'a>,
+        keyword: Lexeme<'a>,
+        kind: PR,
+    ) -> Out<Node<AppDecl>, Fault>
+        ensures read { Gives (node_of app_tree) (tokens_of self.now.source.now tokens.new.rest.now) result
+            (scope_behind (stands (scope_tree kind) (lexeme_node self.now.source.now keyword.entry).loc) (tokens_of self.now.source.now tokens.old.rest.now)) }
+        ensures shorter { OnOk result (length tokens.new.rest.now < length tokens.old.rest.now) }
+    {
+        self.expect_mark(tokens, ":")?;
+        let types = self.one_or_list::<Paths>(tokens)?;
+        Ok(self.scope_of(keyword, kind, types)?)
+    }
+
+    /// Takes what follows `context`.
+    #[tactic(auto, unfolding(cedar_grammar::specs::Reading::context_behind))]
+    fn context<'a>(
+        &self,
+        tokens: &mut Tokens<'_, 'a>,
+        keyword: Lexeme<'a>,
+    ) -> Out<Node<AppDecl>, Fault>
+        ensures read { (n : ℕ) → length tokens.old.rest.now < n → Gives (node_of app_tree) (tokens_of self.now.source.now tokens.new.rest.now) result
+            (context_behind (type_at n) (lexeme_node self.now.source.now keyword.entry) (tokens_of self.now.source.now tokens.old.rest.now)) }
+        ensures shorter { OnOk result (length tokens.new.rest.now < length tokens.old.rest.now) }
+    {
+        self.expect_mark(tokens, ":")?;
+        if let Some(opening) = self.accept_mark(tokens, "{") {
+            let record = self.record_behind(tokens, opening)?;
+            let loc = self.place(keyword.start, record.loc.end)?;
+            return Ok(Node {
+                node: AppDecl::Context(ContextDecl::Record(record)),
+                loc,
+            });
+        }
+        let path = self.path(tokens)?;
+        let loc = self.place(keyword.start, path.loc().end)?;
+        Ok(Node {
+            node: AppDecl::Context(ContextDecl::Path(path)),
+            loc,
+        })
+    }
+
+    /// Takes one part of what an action applies to.
+    #[tactic(auto, unfolding(cedar_grammar::specs::Reading::app_at))]
+    fn app(&self, tokens: &mut Tokens<'_, '_>) -> Out<Node<AppDecl>, Fault>
+        ensures read { (n : ℕ) → length tokens.old.rest.now < n → Gives (node_of app_tree) (tokens_of self.now.source.now tokens.new.rest.now) result
+            (app_at (type_at n) (tokens_of self.now.source.now tokens.old.rest.now)) }
+        ensures shorter { OnOk result (length tokens.new.rest.now < length tokens.old.rest.now) }
+    {
+        if let Some(keyword) = self.accept_keyword(tokens, "principal") {
+            return self.scope(tokens, keyword, PR::Principal);
+        }
+        if let Some(keyword) = self.accept_keyword(tokens, "resource") {
+            return self.scope(tokens, keyword, PR::Resource);
+        }
+        let keyword = self.expect_keyword(tokens, "context")?;
+        self.context(tokens, keyword)
+    }
+
+    /// Takes the parts of what an action applies to, behind `{`, and `}`.
+    fn apps<'a>(
+        &self,
+        tokens: &mut Tokens<'_, 'a>,
+        opening: Lexeme<'a>,
+    ) -> Out<Node<NonEmpty<Node<AppDecl>>>, Fault>
+        ensures read { (n : ℕ) → length tokens.old.rest.now < n → Gives (node_of (λ apps. map (node_of app_tree) (elements apps))) (tokens_of self.now.source.now tokens.new.rest.now) result
+            (apps_behind (type_at n) (lexeme_node self.now.source.now opening.entry) (tokens_of self.now.source.now tokens.old.rest.now)) }
+        ensures shorter { OnOk result (length tokens.new.rest.now < length tokens.old.rest.now) }
+    {
+        let first = self.app(tokens)?;
+        let mut apps = NonEmpty::singleton(self.alloc, first);
+        'apps: loop {
+            if let None = self.accept_mark(tokens, ",") {
+                let closing = self.expect_mark(tokens, "}")?;
+                let loc = self.place(opening.start, closing.end)?;
+                return Ok(Node { node: apps, loc });
+            }
+            if let Some(closing) = self.accept_mark(tokens, "}") {
+                let loc = self.place(opening.start, closing.end)?;
+                return Ok(Node { node: apps, loc });
+            }
+            let app = self.app(tokens)?;
+            apps.push(app)?;
+        }
+    }
+
+    /// Takes what follows `appliesTo`, if it stands next.
+    #[tactic(auto, unfolding(cedar_grammar::specs::Reading::applies_at, crate::specs::Behind::apps_behind))]
+    fn applies(
+        &self,
+        tokens: &mut Tokens<'_, '_>,
+    ) -> Out<Option<Node<NonEmpty<Node<AppDecl>>>>, Fault>
+        ensures read { (n : ℕ) → length tokens.old.rest.now < n → Gives (option_map (node_of (λ apps. map (node_of app_tree) (elements apps)))) (tokens_of self.now.source.now tokens.new.rest.now) result
+            (applies_at (type_at n) (tokens_of self.now.source.now tokens.old.rest.now)) }
+        ensures shorter { OnOk result (length tokens.new.rest.now ≤ length tokens.old.rest.now) }
+    {
+        if let Some(_) = self.accept_keyword(tokens, "appliesTo") {
+            let opening = self.expect_mark(tokens, "{")?;
+            let apps = self.apps(tokens, opening)?;
+            return Ok(Some(apps));
+        }
+        Ok(None)
+    }
+
+    /// Takes the `{}` that follows `attributes`.
+    #[tactic(auto, unfolding(crate::specs::Behind::braces_behind))]
+    fn no_attributes<'a>(&self, tokens: &mut Tokens<'_, 'a>) -> Out<Lexeme<'a>, Fault>
+        ensures read { Gives (lexeme_node self.now.source.now) (tokens_of self.now.source.now tokens.new.rest.now) result
+            (braces_behind (tokens_of self.now.source.now tokens.old.rest.now)) }
+        ensures shorter { OnOk result (length tokens.new.rest.now < length tokens.old.rest.now) }
+    {
+        self.expect_mark(tokens, "{")?;
+        self.expect_mark(tokens, "}")
+    }
+
+    /// Takes `attributes {}` if it stands next, and says whether it did.
+    #[tactic(auto, unfolding(cedar_grammar::specs::Reading::tail_at, crate::specs::Behind::braces_behind))]
+    fn tail(&self, tokens: &mut Tokens<'_, '_>) -> Out<bool, Fault>
+        ensures read { Gives (λ b. b) (tokens_of self.now.source.now tokens.new.rest.now) result
+            (tail_at (tokens_of self.now.source.now tokens.old.rest.now)) }
+        ensures shorter { OnOk result (length tokens.new.rest.now ≤ length tokens.old.rest.now) }
+    {
+        if let Some(_) = self.accept_keyword(tokens, "attributes") {
+            self.no_attributes(tokens)?;
+            return Ok(true);
+        }
+        Ok(false)
+    }
+
+    /// Takes what follows what these actions apply to: maybe `attributes {}`, and `;`.
+    #[tactic(auto, unfolding(crate::specs::Behind::action_end))]
+    fn action_end<'a>(
+        &self,
+        tokens: &mut Tokens<'_, 'a>,
+        action: Lexeme<'a>,
+        decl: ActionDecl,
+    ) -> Out<Node<Declaration>, Fault>
+        ensures read { Gives (node_of decl_tree) (tokens_of self.now.source.now tokens.new.rest.now) result
+            (action_end (lexeme_node self.now.source.now action.entry) (action_tree decl) (tokens_of self.now.source.now tokens.old.rest.now)) }
+        ensures shorter { OnOk result (length tokens.new.rest.now < length tokens.old.rest.now) }
+    {
+        self.tail(tokens)?;
+        let semicolon = self.expect_mark(tokens, ";")?;
+        let loc = self.place(action.start, semicolon.end)?;
+        Ok(Node {
+            node: Declaration::Action(decl),
+            loc,
+        })
+    }
+
+    /// Takes what follows the names of actions.
+    #[tactic(auto, unfolding(crate::specs::Behind::action_rest, crate::specs::Behind::action_end))]
+    fn action_rest<'a>(
+        &self,
+        tokens: &mut Tokens<'_, 'a>,
+        action: Lexeme<'a>,
+        names: NonEmpty<Node<Text>>,
+    ) -> Out<Node<Declaration>, Fault>
+        ensures read { (n : ℕ) → length tokens.old.rest.now < n → Gives (node_of decl_tree) (tokens_of self.now.source.now tokens.new.rest.now) result
+            (action_rest (type_at n) (lexeme_node self.now.source.now action.entry) (map (node_of (λ text. text)) (elements names)) (tokens_of self.now.source.now tokens.old.rest.now)) }
+        ensures shorter { OnOk result (length tokens.new.rest.now < length tokens.old.rest.now) }
+    {
+        let parents = self.actions_above(tokens)?;
+        let app_decls = self.applies(tokens)?;
+        let decl = ActionDecl {
+            names,
+            parents,
+            app_decls,
+        };
+        self.action_end(tokens, action, decl)
+    }
+
+    /// Takes what follows `action`.
+    #[tactic(auto, unfolding(cedar_grammar::specs::Reading::action_behind, crate::specs::Behind::action_rest))]
+    pub fn action<'a>(
+        &self,
+        tokens: &mut Tokens<'_, 'a>,
+        action: Lexeme<'a>,
+    ) -> Out<Node<Declaration>, Fault>
+        ensures read { (n : ℕ) → length tokens.old.rest.now < n → Gives (node_of decl_tree) (tokens_of self.now.source.now tokens.new.rest.now) result
+            (action_behind (type_at n) (lexeme_node self.now.source.now action.entry) (tokens_of self.now.source.now tokens.old.rest.now)) }
+        ensures shorter { OnOk result (length tokens.new.rest.now < length tokens.old.rest.now) }
+    {
+        let names = self.commas::<Names>(tokens)?;
+        self.action_rest(tokens, action, names)
+    }
+}
