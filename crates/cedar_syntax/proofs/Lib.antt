@@ -2,7 +2,6 @@
 pub mod Completing
 pub mod DeepPlaces
 pub mod GoingBack
-pub mod Quotes
 pub mod Rules
 pub mod Straying
 pub mod Unclosed

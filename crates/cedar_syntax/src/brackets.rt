@@ -6,7 +6,7 @@ ghost use Rattle.cedar_syntax.specs.Marks.{bare};
 ghost use Rattle.cedar_syntax.specs.Steps.{TellsBrackets};
 ghost use Rattle.cedar_syntax.specs.Texts.{open_at_most};
 
-use crate::tests_of_tokens::{closes_bracket, opens_bracket, span};
+use crate::token_kinds::{closes_bracket, opens_bracket, span};
 use cedar_names::Span;
 use cedar_tokens::Lexeme;
 

@@ -6,7 +6,7 @@ ghost use Rattle.cedar_tokens.specs.Lexemes.{lexeme_token};
 ghost use Rattle.cedar_syntax.specs.Causes.{Cause, StraysAs};
 ghost use Rattle.cedar_syntax.specs.Texts.{HasTokens, open_at_most};
 
-use crate::tests_of_tokens::span;
+use crate::token_kinds::span;
 use crate::users::rule_error;
 use cedar_data::{Mem, Text};
 use cedar_tokens::Lexeme;

@@ -9,7 +9,7 @@ mod nesting;
 mod parsing;
 mod reading;
 mod repeats;
-mod tests_of_tokens;
+mod token_kinds;
 mod users;
 
 pub use cedar_tokens::{Token, TokenKind};

@@ -4,7 +4,7 @@ ghost use Rattle.cedar_tokens.specs.Lexemes.{lexeme_token};
 ghost use Rattle.cedar_syntax.specs.Repeats.{seen_with, key_in};
 ghost use Rattle.cedar_syntax.specs.Steps.{TellsRepeat};
 
-use crate::tests_of_tokens::{is_literal, is_mark, is_word};
+use crate::token_kinds::{is_literal, is_mark, is_word};
 use cedar_tokens::Lexeme;
 
 /// What stands at the end of some tokens, as far as one has gone back from there.

@@ -1,15 +1,15 @@
 // SPDX-License-Identifier: Apache-2.0
-ghost use Rattle.std.specs.Prelude.{◌≡◌, ◌↔◌, ℕ, List, map, option_map, IsTrue, IfOk};
-ghost use Rattle.cedar_grammar.specs.Grammar.{literal_body};
+ghost use Rattle.std.specs.Prelude.{◌↔◌, ℕ, List, map, IsTrue, IfOk};
 ghost use Rattle.cedar_tokens.specs.Lexemes.{lexeme_token};
 ghost use Rattle.cedar_syntax.specs.Causes.{ClosesEmptyEnum, IsReservedWord};
 ghost use Rattle.cedar_syntax.specs.Steps.{IsEscapeIn, TellsEscape, TellsRepeatError, TellsReservedError, TellsRule};
 
 use crate::reading::may_follow;
 use crate::repeats::repeated_key;
-use crate::tests_of_tokens::{is_keyword, is_literal, is_mark, is_word, span};
+use crate::token_kinds::{is_keyword, is_literal, is_mark, is_word, span};
 use cedar_data::{Dup, Failure, Mem, NoMemory, Text};
 use cedar_names::{AnyId, BadEscape, Loc, Node};
+use cedar_parser::literal_body;
 use cedar_text::{is_reserved_word, unescape};
 use cedar_tokens::{Lexeme, TokenKind};
 use cedar_tree::UserError;
@@ -33,13 +33,6 @@ fn closes_empty_enum(front: &[Lexeme<'_>], token: &Lexeme<'_>) -> bool
         Some((word, _)) => is_keyword(word, "enum"),
         None => false,
     }
-}
-
-/// What stands between the quotes of a literal.
-fn literal_body(literal: &str) -> Option<&str>
-    ensures { option_map (λ body. body.now) result ≡ literal_body literal.now }
-{
-    literal.strip_prefix('"')?.strip_suffix('"')
 }
 
 /// The first bad escape of the body of a literal.
