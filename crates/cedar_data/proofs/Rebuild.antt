@@ -41,6 +41,23 @@ module _ {K : Type 0} where
       let step = insert_key-last total ks k (sorted_tail cmp x (ks ++ k ∷ []) sorted) in
       ap (λ o. match_ordering o (k ∷ x ∷ ks) (x ∷ ks) (x ∷ insert_key cmp ks k)) above ∙ ap (λ l. x ∷ l) step
 
+  -- a key before all others goes to the front of a set
+  pub insert_key-first : (cmp : K → K → Ordering) (ks : List K) (k : K) → IsStrictlySortedBy cmp (k ∷ ks) → insert_key cmp ks k ≡ k ∷ ks
+  insert_key-first cmp [] k sorted = refl
+  insert_key-first cmp (x ∷ ks) k sorted =
+      ap (λ o. match_ordering o (k ∷ x ∷ ks) (x ∷ ks) (x ∷ insert_key cmp ks k)) (sorted_head cmp k (x ∷ ks) sorted).0
+
+  -- of keys that ascend, the last ones do
+  pub sorted_back : (cmp : K → K → Ordering) (front back : List K) → IsStrictlySortedBy cmp (front ++ back) → IsStrictlySortedBy cmp back
+  sorted_back cmp [] back sorted = sorted
+  sorted_back cmp (x ∷ front) back sorted = sorted_back cmp front back (sorted_tail cmp x (front ++ back) sorted)
+
+  -- on the way back through a set, the next key and those so far ascend
+  pub sorted_previous_key : (cmp : K → K → Ordering) (front done : List K) {left whole : List K} {key next : K} → left ++ done ≡ whole → left ≡ front ++ next ∷ [] → key ≡ next → IsStrictlySortedBy cmp whole → IsStrictlySortedBy cmp (key ∷ done)
+  sorted_previous_key cmp front done {left} {whole} {key} {next} split last same sorted =
+      let all : whole ≡ front ++ next ∷ done = sym split ∙ ap (λ l. l ++ done) last ∙ append_assoc front (next ∷ []) done in
+      subst (λ k. IsStrictlySortedBy cmp (k ∷ done)) (sym same) (sorted_back cmp front (next ∷ done) (subst (λ ks. IsStrictlySortedBy cmp ks) all sorted))
+
   -- on the way through a set, the keys so far and the next one ascend
   pub sorted_next_key : (cmp : K → K → Ordering) (done : List K) {left rest whole : List K} {key next : K} → done ++ left ≡ whole → left ≡ next ∷ rest → key ≡ next → IsStrictlySortedBy cmp whole → IsStrictlySortedBy cmp (done ++ key ∷ [])
   sorted_next_key cmp done {left} {rest} {whole} {key} {next} split first same sorted =
@@ -60,6 +77,18 @@ module _ {K V : Type 0} where
       let above : cmp k e.0 ≡ Greater = total.antisymm k e.0 ∙ ap ordering_reverse below in
       let step = insert_entry-last total es k v (sorted_tail cmp e.0 (keys_of es ++ k ∷ []) sorted) in
       ap (λ o. match_ordering o ((k, v) ∷ e ∷ es) ((e.0, v) ∷ es) (e ∷ insert_entry cmp es k v)) above ∙ ap (λ l. e ∷ l) step
+
+  -- a key before all others goes to the front
+  pub insert_entry-first : (cmp : K → K → Ordering) (es : List (K × V)) (k : K) (v : V) → IsStrictlySortedBy cmp (k ∷ keys_of es) → insert_entry cmp es k v ≡ (k, v) ∷ es
+  insert_entry-first cmp [] k v sorted = refl
+  insert_entry-first cmp (e ∷ es) k v sorted =
+      ap (λ o. match_ordering o ((k, v) ∷ e ∷ es) ((e.0, v) ∷ es) (e ∷ insert_entry cmp es k v)) (sorted_head cmp k (keys_of (e ∷ es)) sorted).0
+
+  -- on the way back through a map, the next key and those so far ascend
+  pub sorted_previous : (cmp : K → K → Ordering) (front done : List (K × V)) (value : V) {left whole : List (K × V)} {key next : K} → left ++ done ≡ whole → left ≡ front ++ (next, value) ∷ [] → key ≡ next → IsSortedMap cmp whole → IsStrictlySortedBy cmp (key ∷ keys_of done)
+  sorted_previous cmp front done value {left} {whole} {key} {next} split last same sorted =
+      let keys : keys_of left ++ keys_of done ≡ keys_of whole = sym (keys_of-append left done) ∙ ap keys_of split in
+      sorted_previous_key cmp (keys_of front) (keys_of done) keys (ap keys_of last ∙ keys_of-append front ((next, value) ∷ [])) same sorted
 
   -- on the way through a map, the keys so far and the next one ascend
   pub sorted_next : (cmp : K → K → Ordering) (done : List (K × V)) {left rest whole : List (K × V)} {key next : K} {value : V} → done ++ left ≡ whole → left ≡ (next, value) ∷ rest → key ≡ next → IsSortedMap cmp whole → IsStrictlySortedBy cmp (keys_of done ++ key ∷ [])

@@ -153,6 +153,29 @@ impl<K: Ord + Drop, V: Drop> Map<K, V> {
         Ok(map)
     }
 
+    /// The map of entries that are in the order of their keys already. It takes no comparison but one an entry and
+    /// level of the tree. It fails only for want of memory.
+    pub fn from_sorted(alloc: Global, mut entries: Vec<(K, V)>) -> Mem<Map<K, V>>
+        requires { IsSortedMap K.cmp entries.items }
+        ensures { IfOk result (λ m. m ≡ entries.items) }
+    {
+        let mut map = Map::new(alloc);
+        while let Some((key, value)) = entries.pop() {
+            map.push_first(key, value)?;
+        }
+        Ok(map)
+    }
+
+    /// Puts an entry before all others, which is the cheapest place. It fails only for want of memory, and then
+    /// changes nothing.
+    pub fn push_first(&mut self, key: K, value: V) -> Mem<()>
+        requires { IsStrictlySortedBy K.cmp (key ∷ keys_of self.old) }
+        ensures ok { OnOk result (self.new ≡ (key, value) ∷ self.old) }
+        ensures err { OnErr result (self.new ≡ self.old) }
+    {
+        self.put(key, value)
+    }
+
     /// Puts an entry after all others. It fails only for want of memory, and then changes nothing.
     pub fn push_last(&mut self, key: K, value: V) -> Mem<()>
         requires { IsStrictlySortedBy K.cmp (keys_of self.old ++ key ∷ []) }
@@ -180,10 +203,11 @@ impl<V> Map<Text, V> {
 impl<K: Ord + Dup + Drop, V: Dup + Drop> Dup for Map<K, V> {
     fn dup(&self, alloc: Global) -> Mem<Map<K, V>> {
         let mut copies = Map::new(alloc);
-        for (key, value) in self.iter() {
+        let mut rest = self.iter();
+        while let Some((key, value)) = rest.next_back() {
             let key = key.dup(alloc)?;
             let value = value.dup(alloc)?;
-            copies.push_last(key, value)?;
+            copies.push_first(key, value)?;
         }
         Ok(copies)
     }

@@ -88,8 +88,31 @@ impl<K: Ord + Drop> Set<K> {
         Ok(added)
     }
 
-    /// Puts a key after all others.
-    fn push_last(&mut self, key: K) -> Mem<()>
+    /// The set of keys that are in their order already. It fails only for want of memory.
+    pub fn from_sorted(alloc: Global, mut keys: Vec<K>) -> Mem<Set<K>>
+        requires { IsStrictlySortedBy K.cmp keys.items }
+        ensures { IfOk result (λ s. s ≡ keys.items) }
+    {
+        let mut set = Set::new(alloc);
+        while let Some(key) = keys.pop() {
+            set.push_first(key)?;
+        }
+        Ok(set)
+    }
+
+    /// Puts a key before all others, which is the cheapest place. It fails only for want of memory, and then changes
+    /// nothing.
+    pub fn push_first(&mut self, key: K) -> Mem<()>
+        requires { IsStrictlySortedBy K.cmp (key ∷ self.old) }
+        ensures ok { OnOk result (self.new ≡ key ∷ self.old) }
+        ensures err { OnErr result (self.new ≡ self.old) }
+    {
+        self.insert(key)?;
+        Ok(())
+    }
+
+    /// Puts a key after all others. It fails only for want of memory, and then changes nothing.
+    pub fn push_last(&mut self, key: K) -> Mem<()>
         requires { IsStrictlySortedBy K.cmp (self.old ++ key ∷ []) }
         ensures ok { OnOk result (self.new ≡ self.old ++ key ∷ []) }
         ensures err { OnErr result (self.new ≡ self.old) }
@@ -102,9 +125,10 @@ impl<K: Ord + Drop> Set<K> {
 impl<K: Ord + Dup + Drop> Dup for Set<K> {
     fn dup(&self, alloc: Global) -> Mem<Set<K>> {
         let mut copies = Set::new(alloc);
-        for key in self.iter() {
+        let mut rest = self.iter();
+        while let Some(key) = rest.next_back() {
             let copy = key.dup(alloc)?;
-            copies.push_last(copy)?;
+            copies.push_first(copy)?;
         }
         Ok(copies)
     }

@@ -1,7 +1,8 @@
 -- SPDX-License-Identifier: Apache-2.0
-use Rattle.cedar_data.proofs.Rebuild.{sorted_next}
+use Rattle.cedar_data.proofs.Rebuild.{sorted_previous}
 use Rattle.cedar_data.proofs.map.MapDup.dup.Goals as goal
 
-pub push_last-requires : goal.push_last-requires
-push_last-requires g c =
-    sorted_next g.K.Ord.cmp c.loop-key.copies c.loop-key.invariant c.in-Some.ensures.steps c.in_ok-key.ensures c.iter-key-items.ensures.ordered
+pub push_first-requires : goal.push_first-requires
+push_first-requires g c =
+    sorted_previous g.K.Ord.cmp c.next_back.new.self c.loop-key.copies c.in-Some.value.now
+    c.loop-key.invariant c.in-Some.ensures.steps c.in_ok-key.ensures c.iter-rest.ensures.ordered
