@@ -3,3 +3,7 @@ pub mod Build
 pub mod Rebuild
 pub mod Texts
 pub mod MapsMade
+pub mod Deciding
+pub mod Exact
+pub mod Judging
+pub mod Progress

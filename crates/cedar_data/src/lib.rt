@@ -6,6 +6,7 @@
 mod boxed;
 mod dup;
 mod items;
+mod laws;
 mod map;
 mod memory;
 mod set;
@@ -15,6 +16,7 @@ mod text;
 pub use boxed::Boxed;
 pub use dup::Dup;
 pub use items::Items;
+pub use laws::one_list;
 pub use map::Map;
 pub use memory::{Failure, Mem, NoMemory, Out};
 pub use set::{Set, SetIter};
