@@ -11,5 +11,6 @@ pub mod FaultTexts
 pub mod HashLaws
 pub mod Identifiers
 pub mod Names
+pub mod Namespaces
 pub mod Order
 pub mod OrderLaws

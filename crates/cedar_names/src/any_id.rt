@@ -47,6 +47,13 @@ impl AnyId {
     {
         self.word.as_str()
     }
+
+    /// The word as shared text, whose copies take no memory.
+    pub fn as_text(&self) -> &Text
+        ensures { result.now ≡ any_word self.now }
+    {
+        &self.word
+    }
 }
 
 impl fmt::Display for AnyId {

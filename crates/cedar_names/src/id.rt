@@ -67,6 +67,21 @@ impl Id {
     {
         self.word.as_str()
     }
+
+    /// The word as shared text, whose copies take no memory.
+    pub fn as_text(&self) -> &Text
+        ensures { result.now ≡ id_word self.now }
+    {
+        &self.word
+    }
+
+    /// The word as shared text, by value.
+    pub fn into_text(self) -> Text
+        ensures { result ≡ id_word self }
+    {
+        let Id { word } = self;
+        word
+    }
 }
 
 impl fmt::Display for Id {
@@ -135,6 +150,13 @@ impl UnreservedId {
         ensures { result.now ≡ unreserved_word self.now }
     {
         self.id.as_ref()
+    }
+
+    /// The word as shared text, whose copies take no memory.
+    pub fn as_text(&self) -> &Text
+        ensures { result.now ≡ unreserved_word self.now }
+    {
+        self.id.as_text()
     }
 
     /// The same word as an identifier.

@@ -16,8 +16,9 @@ ghost use Rattle.cedar_text.specs.Faults.{word_fault, no_id};
 
 use crate::components::Components;
 use crate::id::Id;
+use crate::namespace::Namespace;
 use crate::normal_name::{name_of_ids, normalized_ids};
-use cedar_data::{Dup, Items, Mem, Out};
+use cedar_data::{Dup, Mem, Out};
 use cedar_text::{Loc, NameFault, Span, is_cedar};
 use std::alloc::Global;
 use std::cmp::Ordering;
@@ -33,7 +34,7 @@ pub type IdIter<'a> = Iter<'a, Id>;
 #[derive(Debug, Drop)]
 pub struct InternalName {
     basename: Id,
-    namespace: Items<Id>,
+    namespace: Namespace,
     loc: Option<Loc>,
 }
 
@@ -44,9 +45,26 @@ impl InternalName {
     {
         InternalName {
             basename,
-            namespace: Items::from_vec(namespace),
+            namespace: Namespace::alone(namespace),
             loc,
         }
+    }
+
+    /// As `new`, with a namespace whose copies take no memory. It fails only for want of memory.
+    pub fn with_shared(
+        alloc: Global,
+        basename: Id,
+        namespace: Vec<Id>,
+        loc: Option<Loc>,
+    ) -> Mem<InternalName>
+        ensures { IfOk result (λ n. n ≡ internal_name basename namespace.items loc) }
+    {
+        let namespace = Namespace::shared(alloc, namespace)?;
+        Ok(InternalName {
+            basename,
+            namespace,
+            loc,
+        })
     }
 
     /// The name of one component.
@@ -55,7 +73,7 @@ impl InternalName {
     {
         InternalName {
             basename: id,
-            namespace: Items::new(alloc),
+            namespace: Namespace::none(alloc),
             loc,
         }
     }
@@ -126,18 +144,14 @@ impl InternalName {
         if !self.is_unqualified() {
             return Ok(self);
         }
-        let mut namespace = outer.namespace.dup(alloc)?;
+        let mut namespace = outer.namespace.to_ids(alloc)?;
         namespace.push(outer.basename.dup(alloc)?)?;
         let InternalName {
             basename,
             namespace: _,
             loc,
         } = self;
-        Ok(InternalName {
-            basename,
-            namespace,
-            loc,
-        })
+        InternalName::with_shared(alloc, basename, namespace, loc)
     }
 
     /// Whether some component is `__cedar`.
@@ -169,11 +183,22 @@ fn compare_components(left: &InternalName, right: &InternalName) -> Ordering
     left.components().cmp(right.components())
 }
 
+/// The order of names. Where neither has a namespace, it is that of the basenames.
+fn compare_names(left: &InternalName, right: &InternalName) -> Ordering
+    ensures { result ≡ words_cmp (components left.now) (components right.now) }
+{
+    if left.is_unqualified() && right.is_unqualified() {
+        left.basename.cmp(&right.basename)
+    } else {
+        compare_components(left, right)
+    }
+}
+
 /// Whether the component lists are equal.
 fn have_same_components(left: &InternalName, right: &InternalName) -> bool
     ensures { result ≡ words_eq (components left.now) (components right.now) }
 {
-    left.basename == right.basename && left.namespace == right.namespace
+    left.basename == right.basename && left.namespace.as_slice() == right.namespace.as_slice()
 }
 
 impl PartialEq for InternalName {
@@ -210,7 +235,7 @@ impl Ord for InternalName {
     ghost matches_eq = { words-ties components };
 
     fn cmp(&self, other: &Self) -> Ordering {
-        compare_components(self, other)
+        compare_names(self, other)
     }
 }
 
@@ -221,7 +246,7 @@ impl Hash for InternalName {
 
     fn hash<H: Hasher>(&self, state: &mut H) {
         self.basename.hash(state);
-        self.namespace.hash(state);
+        self.namespace.as_slice().hash(state);
     }
 }
 

@@ -11,6 +11,7 @@ mod extensions;
 mod id;
 mod internal_name;
 mod name;
+mod namespace;
 mod normal_name;
 
 pub use annotation::{Annotation, AnnotationIter, Annotations};
