@@ -14,7 +14,9 @@ pub struct NoMemory;
 /// Why a call was refused: by its own rules, or for want of memory.
 #[derive(Debug, Drop, PartialEq, Eq)]
 pub enum Failure<E> {
+    /// The call was refused, for this reason.
     Refused(E),
+    /// There was not enough memory.
     NoMemory,
 }
 

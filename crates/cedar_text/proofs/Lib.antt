@@ -6,3 +6,4 @@ pub mod PartsLemmas
 pub mod UndoLemmas
 pub mod UnescapeLemmas
 pub mod WritingLemmas
+pub mod Members

@@ -307,7 +307,7 @@ pub uid_fault-printed : (w : List ℕ) (ws : List (List ℕ)) (id : List ℕ) �
     → (uid_fault (uid_with (w ∷ ws) (escaped id)) ≡ None) × WritesUid (uid_with (w ∷ ws) (escaped id)) (w ∷ ws) id
 uid_fault-printed w ws id e = (
   uid_fault-with w ws (escaped id) id e (escaped-items id) (unescaped-escaped id),
-  record { body = escaped id; is = refl; value = unescaped-escaped id },
+  record { body = escaped id; is = refl; items = escaped-items id; value = unescaped-escaped id },
 )
 
 -- what a literal stands for is one text

@@ -1,10 +1,11 @@
 -- SPDX-License-Identifier: Apache-2.0
-use Rattle.std.specs.Prelude.{◌≡◌, ◌≢◌, ℕ, ◌+◌, ◌==◌, not, if◌then◌else◌, List, [], ◌∷◌, ◌++◌, length, take, drop, codes, Option, Some, None, Result, Ok, Err}
-use Rattle.std.specs.List.{take_while}
+use Rattle.std.specs.Prelude.{◌≡◌, ◌≢◌, ℕ, ◌+◌, ◌==◌, not, if◌then◌else◌, true, List, [], ◌∷◌, ◌++◌, length, take, drop, codes, Option, Some, None, Result, Ok, Err}
+use Rattle.std.specs.List.{take_while, list_all}
 use Rattle.cedar_text.specs.Joining.{joined}
 use Rattle.cedar_text.specs.Faults.{token_at, first_fault, no_unreserved_id}
 use Rattle.cedar_text.specs.NormalNames.{parts, parts_fault, words_fault}
 use Rattle.cedar_text.specs.Unescaping.{unescaped}
+use Rattle.cedar_text.specs.Words.{is_unreserved_id}
 use Rattle.cedar_text.specs.declared.fault.NameFault.{NameFault}
 use Rattle.cedar_text.specs.declared.fault.NameFault.TheVariants.{Empty, BadToken, Reserved}
 use Rattle.cedar_text.specs.declared.literal.Scan.{Scan}
@@ -36,10 +37,17 @@ scanned_fault at inner (Closed n) = first_fault (escape_fault at (unescaped (tak
 abbrev pub literal_fault : ℕ → List ℕ → Option NameFault
 literal_fault at inner = scanned_fault at inner (scan_items 0 None inner)
 
--- the rest of a literal that stands for a text, behind the quote that opens it
+-- items of a literal, one after another: any byte but `"` and `\`, or `\` and a byte that is no line feed
+pub data AreItemBytes : List ℕ → Type 0 where
+  no_item : AreItemBytes []
+  plain_item : {b : ℕ} {bs : List ℕ} → b ≢ 34 → b ≢ 92 → AreItemBytes bs → AreItemBytes (b ∷ bs)
+  escaped_item : {b : ℕ} {bs : List ℕ} → b ≢ 10 → AreItemBytes bs → AreItemBytes (92 ∷ b ∷ bs)
+
+-- the rest of a literal that stands for a text, behind the quote that opens it: items, and the quote that closes it
 pub record ClosesLiteral (inner text : List ℕ) : Type 0 where
   pub body : List ℕ
   pub is : inner ≡ body ++ codes "\""
+  pub items : AreItemBytes body
   pub value : unescaped body ≡ Ok text
 
 -- what is wrong with the text before a quote, which has to end behind `::`; its form has this fault
@@ -69,12 +77,6 @@ split_fault front (quote ∷ inner) = first_fault (opening_fault front) (first_f
 abbrev pub uid_fault : List ℕ → Option NameFault
 uid_fault s = split_fault (before_quote s) (from_quote s)
 
--- items of a literal, one after another: any byte but `"` and `\`, or `\` and a byte that is no line feed
-pub data AreItemBytes : List ℕ → Type 0 where
-  no_item : AreItemBytes []
-  plain_item : {b : ℕ} {bs : List ℕ} → b ≢ 34 → b ≢ 92 → AreItemBytes bs → AreItemBytes (b ∷ bs)
-  escaped_item : {b : ℕ} {bs : List ℕ} → b ≢ 10 → AreItemBytes bs → AreItemBytes (92 ∷ b ∷ bs)
-
 -- the words with `::` between them, `::`, and a literal of this body
 abbrev pub uid_with : List (List ℕ) → List ℕ → List ℕ
 uid_with words body = joined words ++ codes "::\"" ++ body ++ codes "\""
@@ -83,4 +85,13 @@ uid_with words body = joined words ++ codes "::\"" ++ body ++ codes "\""
 pub record WritesUid (s : List ℕ) (words : List (List ℕ)) (id : List ℕ) : Type 0 where
   pub body : List ℕ
   pub is : s ≡ uid_with words body
+  pub items : AreItemBytes body
   pub value : unescaped body ≡ Ok id
+
+-- the text writes an entity: unreserved identifiers, one at least, and an id
+pub record WritesEntity (s : List ℕ) : Type 0 where
+  pub first : List ℕ
+  pub others : List (List ℕ)
+  pub id : List ℕ
+  pub identifiers : list_all is_unreserved_id (first ∷ others) ≡ true
+  pub writes : WritesUid s (first ∷ others) id

@@ -3,6 +3,7 @@
 //! and string literals, places, and what stands at a place.
 #![tactic(auto)]
 
+mod collecting;
 mod escapes;
 mod fault;
 mod form;
@@ -13,6 +14,7 @@ mod non_empty;
 mod unescaping;
 mod words;
 
+pub use collecting::{Convert, collect, collect_map, push_all, push_elements};
 pub use escapes::{Escaped, EscapedByte, escape};
 pub use fault::NameFault;
 pub use form::{check_form, parts_of, reserved, words_make_a_name};

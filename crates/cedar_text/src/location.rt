@@ -8,15 +8,20 @@ use std::alloc::Global;
 /// A range of a text, in bytes.
 #[derive(Clone, Copy, Debug, PartialEq, Eq)]
 pub struct Span {
+    /// The byte at which it begins.
     pub start: usize,
+    /// The byte before which it ends.
     pub end: usize,
 }
 
 /// A place: a range of a source text, in bytes, and the text.
 #[derive(Debug, Drop, PartialEq, Eq)]
 pub struct Loc {
+    /// The byte at which it begins.
     pub start: usize,
+    /// The byte before which it ends.
     pub end: usize,
+    /// The source text.
     pub src: Text,
 }
 

@@ -9,7 +9,9 @@ use std::alloc::Global;
 #[derive(Debug, Drop)]
 #[derive_where(PartialEq, Eq, PartialOrd, Ord, Hash; T)]
 pub struct Node<T> {
+    /// The value.
     pub node: T,
+    /// Its place.
     #[derive_where(skip(EqHashOrd))]
     pub loc: Loc,
 }

@@ -10,7 +10,9 @@ use std::slice::Iter;
 /// A list of at least one item.
 #[derive(Debug, Drop, PartialEq, Eq, PartialOrd, Ord, Hash)]
 pub struct NonEmpty<T> {
+    /// The first item.
     pub head: T,
+    /// The items after the first.
     pub tail: Items<T>,
 }
 
