@@ -53,6 +53,10 @@ opened (b ∷ bs) (Some Empty) e = (refl, omega arith)
 opened (b ∷ bs) (Some (BadToken at token)) e = cc
 opened (b ∷ bs) (Some (Reserved word)) e = cc
 
+-- a text with no fault before the quote ends too early for a name
+pub opening_empty : (front : List ℕ) → opening_fault front ≡ None → parts_fault front 0 (parts front) ≡ Some Empty
+opening_empty front good = (opened front (parts_fault front 0 (parts front)) good).0
+
 module _ (front : List ℕ) (words : List (List ℕ)) (good : opening_fault front ≡ None) (same : words ++ [] ∷ [] ≡ parts front) where
   pub all_are_words : list_all is_word words ≡ true
   all_are_words = words-open front 0 words (ap (parts_fault front 0) same ∙ (opened front (parts_fault front 0 (parts front)) good).0)
@@ -160,5 +164,6 @@ module _ (s : List ℕ) (n : ℕ) (counted : n ≡ length (before_quote s)) (fro
           is =
               whole ∙ ap₂ (λ (x y : List ℕ). x ++ y) (joined-front front words good same) (quote_first ∙ ap (λ (l : List ℕ). 34 ∷ l) literal.is)
               ∙ append_assoc (joined words) (codes "::") (34 ∷ (literal.body ++ codes "\"")) ∙ sym (regroup (joined words) (codes "::\"") literal.body (codes "\""));
+          items = literal.items;
           value = literal.value;
         }

@@ -1,5 +1,6 @@
 -- SPDX-License-Identifier: Apache-2.0
 pub mod AnnotationLemmas
+pub mod EntityTexts
 pub mod EntityUidLemmas
 pub mod ExtensionLemmas
 pub mod Ids
