@@ -143,7 +143,8 @@ impl<K: Ord + Drop, V: Drop> Map<K, V> {
     /// The map of the pairs. Of several pairs of one key, the last counts. It fails only for want of memory.
     pub fn from_pairs(alloc: Global, pairs: Vec<(K, V)>) -> Mem<Map<K, V>>
         ensures made { IfOk result (λ m. m ≡ map_of K.cmp pairs.items) }
-        ensures values { IfOk result (λ m. (key : K) → get K.cmp m key ≡ last_value (is_at (K.cmp key)) pairs.items) }
+        ensures values { IfOk result (λ m. (key : K)
+            → get K.cmp m key ≡ last_value (is_at (K.cmp key)) pairs.items) }
         ensures ordered { IfOk result (λ m. IsSortedMap K.cmp m) }
     {
         let mut map = Map::new(alloc);

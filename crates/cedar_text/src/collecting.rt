@@ -32,7 +32,8 @@ pub trait Convert<K, V, E>: Sized {
     /// Its entries, or all that is wrong with it.
     fn convert(self, alloc: Global) -> Out<Vec<(K, V)>, NonEmpty<E>>
         ensures faultless { IfOk result (λ made. faults self ≡ []) }
-        ensures made { IfOk result (λ made. map (λ e. (name e.0, content e.1)) made.items ≡ entries self) }
+        ensures made { IfOk result (λ made. map (λ e. (name e.0, content e.1)) made.items
+            ≡ entries self) }
         ensures refused { IfRefused result (λ wrong. elements wrong ≡ faults self) };
 }
 

@@ -14,9 +14,17 @@ pub enum NameFault {
     Empty,
     /// The text goes on otherwise than it may at the byte offset `at`. The token is `::` where two colons stand there,
     /// and else the one character. A bad escape has its backslash, and so has one before a line feed.
-    BadToken { at: usize, token: Text },
+    BadToken {
+        /// The byte offset of the token.
+        at: usize,
+        /// The token.
+        token: Text,
+    },
     /// The form is right, and an identifier is a word that may not stand there.
-    Reserved { word: Text },
+    Reserved {
+        /// The word.
+        word: Text,
+    },
 }
 
 impl fmt::Display for NameFault {

@@ -80,8 +80,11 @@ pub struct Parts {
 /// The words of a text between `::`; refused with what is wrong with its form, but for its end where a word has to
 /// begin.
 pub fn scan_parts(alloc: Global, s: &str) -> Out<Parts, NameFault>
-    ensures ok { IfOk result (λ found. (parts_fault s.now 0 (parts s.now) ≡ end_fault found.unfinished) × (found.words.items ++ open_part found.unfinished ≡ parts s.now)) }
-    ensures refused { IfRefused result (λ fault. (parts_fault s.now 0 (parts s.now) ≡ Some fault) × (is_empty_fault fault ≡ false)) }
+    ensures ok { IfOk result (λ found.
+        (parts_fault s.now 0 (parts s.now) ≡ end_fault found.unfinished)
+        × (found.words.items ++ open_part found.unfinished ≡ parts s.now)) }
+    ensures refused { IfRefused result (λ fault.
+        (parts_fault s.now 0 (parts s.now) ≡ Some fault) × (is_empty_fault fault ≡ false)) }
 {
     let mut words = Vec::new(alloc);
     let mut rest = s;
@@ -117,7 +120,8 @@ pub fn scan_parts(alloc: Global, s: &str) -> Out<Parts, NameFault>
 
 /// The words of a text between `::`; refused with what is wrong with its form.
 pub fn parts_of(alloc: Global, s: &str) -> Out<Vec<Text>, NameFault>
-    ensures ok { IfOk result (λ words. (parts_fault s.now 0 (parts s.now) ≡ None) × (words.items ≡ parts s.now)) }
+    ensures ok { IfOk result (λ words. (parts_fault s.now 0 (parts s.now) ≡ None)
+        × (words.items ≡ parts s.now)) }
     ensures refused { IfRefused result (λ fault. parts_fault s.now 0 (parts s.now) ≡ Some fault) }
 {
     let Parts { words, unfinished } = scan_parts(alloc, s)?;
@@ -138,6 +142,9 @@ pub fn reserved<T>(alloc: Global, word: &str) -> Out<T, NameFault>
 
 /// The law that words with `::` between them are a name of these words, where none is excluded. It does nothing.
 pub fn words_make_a_name()
-    ensures fault { (excluded : List ℕ → Bool) (w : List ℕ) (ws : List (List ℕ)) → list_all (may_stand excluded) (w ∷ ws) ≡ true → name_fault excluded (joined (w ∷ ws)) ≡ None }
-    ensures words { (w : List ℕ) (ws : List (List ℕ)) → list_all is_word (w ∷ ws) ≡ true → parts (joined (w ∷ ws)) ≡ w ∷ ws }
+    ensures fault { (excluded : List ℕ → Bool) (w : List ℕ) (ws : List (List ℕ))
+        → list_all (may_stand excluded) (w ∷ ws) ≡ true
+        → name_fault excluded (joined (w ∷ ws)) ≡ None }
+    ensures words { (w : List ℕ) (ws : List (List ℕ)) → list_all is_word (w ∷ ws) ≡ true
+        → parts (joined (w ∷ ws)) ≡ w ∷ ws }
 {}

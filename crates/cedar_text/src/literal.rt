@@ -80,7 +80,8 @@ fn sign_fault(alloc: Global, at: usize, sign: &str) -> Mem<NameFault>
 
 /// The words of a name, which stand with `::` behind each before a quote; refused with what is wrong with their form.
 pub fn words_before_quote(alloc: Global, front: &str) -> Out<Vec<Text>, NameFault>
-    ensures ok { IfOk result (λ words. (opening_fault front.now ≡ None) × (words.items ++ [] ∷ [] ≡ parts front.now)) }
+    ensures ok { IfOk result (λ words. (opening_fault front.now ≡ None)
+        × (words.items ++ [] ∷ [] ≡ parts front.now)) }
     ensures refused { IfRefused result (λ fault. opening_fault front.now ≡ Some fault) }
 {
     if front.is_empty() {
@@ -99,7 +100,8 @@ pub fn words_before_quote(alloc: Global, front: &str) -> Out<Vec<Text>, NameFaul
 fn unescape_at(alloc: Global, at: usize, body: &str) -> Out<Text, NameFault>
     requires { at + length body.now < 2 ^ 64 }
     ensures ok { IfOk result (λ text. unescaped body.now ≡ Ok text) }
-    ensures refused { IfRefused result (λ fault. escape_fault at (unescaped body.now) ≡ Some fault) }
+    ensures refused { IfRefused result (λ fault. escape_fault at (unescaped body.now)
+        ≡ Some fault) }
 {
     match unescape(alloc, body) {
         Ok(text) => {
@@ -119,7 +121,8 @@ fn unescape_at(alloc: Global, at: usize, body: &str) -> Out<Text, NameFault>
 fn read_closed(alloc: Global, at: usize, inner: &str, n: usize) -> Out<Text, NameFault>
     requires fits { at + length inner.now < 2 ^ 64 }
     requires closed { scan_items 0 None inner.now ≡ Closed n }
-    ensures ok { IfOk result (λ text. (literal_fault at inner.now ≡ None) × ClosesLiteral inner.now text) }
+    ensures ok { IfOk result (λ text. (literal_fault at inner.now ≡ None)
+        × ClosesLiteral inner.now text) }
     ensures refused { IfRefused result (λ fault. literal_fault at inner.now ≡ Some fault) }
 {
     let (body, quoted) = inner.split_at(n);
@@ -135,7 +138,8 @@ fn read_closed(alloc: Global, at: usize, inner: &str, n: usize) -> Out<Text, Nam
 /// What a literal stands for that begins before `at` with its quote; refused with what is wrong with it, or follows it.
 pub fn read_literal(alloc: Global, at: usize, inner: &str) -> Out<Text, NameFault>
     requires { at + length inner.now < 2 ^ 64 }
-    ensures ok { IfOk result (λ text. (literal_fault at inner.now ≡ None) × ClosesLiteral inner.now text) }
+    ensures ok { IfOk result (λ text. (literal_fault at inner.now ≡ None)
+        × ClosesLiteral inner.now text) }
     ensures refused { IfRefused result (λ fault. literal_fault at inner.now ≡ Some fault) }
 {
     match scan_items(inner.as_bytes()) {
@@ -151,7 +155,14 @@ pub fn read_literal(alloc: Global, at: usize, inner: &str) -> Out<Text, NameFaul
 /// The law that words, `::` and a literal are an entity, of these words and of the id that the literal stands for; so
 /// what is printed of an entity is read back. It does nothing.
 pub fn literal_makes_an_entity()
-    ensures fault { (w : List ℕ) (ws : List (List ℕ)) (body id : List ℕ) → list_all is_unreserved_id (w ∷ ws) ≡ true → AreItemBytes body → unescaped body ≡ Ok id → uid_fault (uid_with (w ∷ ws) body) ≡ None }
-    ensures printed { (w : List ℕ) (ws : List (List ℕ)) (id : List ℕ) → list_all is_unreserved_id (w ∷ ws) ≡ true → (uid_fault (uid_with (w ∷ ws) (escaped id)) ≡ None) × WritesUid (uid_with (w ∷ ws) (escaped id)) (w ∷ ws) id }
-    ensures once { (s w v : List ℕ) (ws vs : List (List ℕ)) (id text : List ℕ) → list_all is_word (w ∷ ws) ≡ true → list_all is_word (v ∷ vs) ≡ true → WritesUid s (w ∷ ws) id → WritesUid s (v ∷ vs) text → (w ∷ ws ≡ v ∷ vs) × (id ≡ text) }
+    ensures fault { (w : List ℕ) (ws : List (List ℕ)) (body id : List ℕ)
+        → list_all is_unreserved_id (w ∷ ws) ≡ true → AreItemBytes body → unescaped body ≡ Ok id
+        → uid_fault (uid_with (w ∷ ws) body) ≡ None }
+    ensures printed { (w : List ℕ) (ws : List (List ℕ)) (id : List ℕ)
+        → list_all is_unreserved_id (w ∷ ws) ≡ true
+        → (uid_fault (uid_with (w ∷ ws) (escaped id)) ≡ None)
+        × WritesUid (uid_with (w ∷ ws) (escaped id)) (w ∷ ws) id }
+    ensures once { (s w v : List ℕ) (ws vs : List (List ℕ)) (id text : List ℕ)
+        → list_all is_word (w ∷ ws) ≡ true → list_all is_word (v ∷ vs) ≡ true
+        → WritesUid s (w ∷ ws) id → WritesUid s (v ∷ vs) text → (w ∷ ws ≡ v ∷ vs) × (id ≡ text) }
 {}

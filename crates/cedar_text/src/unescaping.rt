@@ -24,6 +24,7 @@ struct Meaning {
 /// A text has a bad escape: a backslash at the byte offset `at` begins none.
 #[derive(Clone, Copy, Debug, PartialEq, Eq)]
 pub struct BadEscape {
+    /// The byte offset of the backslash.
     pub at: usize,
 }
 
