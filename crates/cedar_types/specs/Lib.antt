@@ -1,7 +1,2 @@
 -- SPDX-License-Identifier: Apache-2.0
 pub mod Types
-pub mod Chains
-pub mod Marks
-pub mod Closure
-pub mod Places
-pub mod TcErrors
