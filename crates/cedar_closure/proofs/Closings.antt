@@ -153,6 +153,14 @@ module _ {K V : Type 0} {cmp : K → K → Ordering} (total : IsTotalOrder cmp) 
       own_edge : (to : K) → contains cmp (edges node) to ≡ true → HasEdge cmp edges nodes k to
       own_edge to h = ap (λ o. contains cmp (edges_of cmp edges o) to) (get-entry total nodes sofar.done later k node sorted around) ∙ h
 
+      -- from a node without edges no chain leads
+      pub Closing-begun : edges node ≡ [] → (to : K) → Chained cmp keys rows k to → ⊥
+      Closing-begun none to chain =
+          let (b, step) = first_step ((chains to).0 chain) in
+          let here : contains cmp (edges node) b ≡ true = ap (λ o. contains cmp (edges_of cmp edges o) b) (sym (get-entry total nodes sofar.done later k node sorted around)) ∙ step in
+          let no : contains cmp [] b ≡ true = ap (λ l. contains cmp l b) (sym none) ∙ here in
+          cc
+
       -- one node more
       pub Closing-next : {marks' : List ℕ} {closed' : List (K × V)} (new : V) (returns : Bool)
           → ((to : K) → (contains cmp (edges new) to ≡ true) ↔ ((contains cmp (edges node) to ≡ true) ⊎ Chained cmp keys rows k to))

@@ -6,3 +6,4 @@ pub mod Links
 pub mod KeyChains
 pub mod Naming
 pub mod PlaceLemmas
+pub mod OneSet

@@ -1,9 +1,9 @@
 -- SPDX-License-Identifier: Apache-2.0
 -- A loop that adds an edge to each key whose position was found.
-use Rattle.std.proofs.Common.{◌≡◌, ℕ, ◌<◌, ◌↔◌, ◌⊎◌, eqb, Bool, true, false, cond, List, [], ◌∷◌, ◌++◌, length, get_or, Some, Option, Contains, refl, sym, ap, ◌∙◌, subst, inl, inr, ⊎_elim, arith}
+use Rattle.std.proofs.Common.{◌≡◌, ℕ, ◌+◌, ◌<◌, ◌≤◌, ◌↔◌, ◌⊎◌, All, eqb, Bool, true, false, cond, List, [], ◌∷◌, ◌++◌, length, get_or, Some, Option, Contains, refl, sym, ap, ◌∙◌, subst, inl, inr, ⊎_elim, arith}
 use Rattle.std.proofs.lemmas.Bool.{cases_Bool, eqb-true, eq-eqb}
 use Rattle.std.proofs.lemmas.Cmp.{eq_by_cmp_equiv}
-use Rattle.std.proofs.lemmas.List.Elements.{Contains-append_left, Contains-push, Contains-push_cases}
+use Rattle.std.proofs.lemmas.List.Elements.{All-weaker, Contains-append_left, Contains-push, Contains-push_cases}
 use Rattle.std.proofs.lemmas.List.Folds.{Any-from_list_any, list_any-from_Any}
 use Rattle.std.proofs.lemmas.List.Quantifiers.{position-Some}
 use Rattle.std.specs.declared.cmp.Ordering.{Ordering}
@@ -46,6 +46,12 @@ chained_found rows found at a b is reached = (to, from)
     from h =
         let (j, here, chain) = some_parts b (λ j. Reaches (Leads rows) at j) (at_some (λ i. IsSomeAnd b (λ j. Reaches (Leads rows) i j)) is h) in
         some_and b (Contains found) j here ((reached j).1 chain)
+
+-- marks that were early enough still are
+pub marks_later : (o : Option ℕ) (marks : List ℕ) → IsSomeAnd o (λ at. All (λ mark. mark ≤ at) marks) → IsSomeAnd o (λ at. All (λ mark. mark ≤ at + 1) marks)
+marks_later o marks h =
+    let (at, is, all) = some_parts o (λ at. All (λ mark. mark ≤ at) marks) h in
+    some_and o (λ at. All (λ mark. mark ≤ at + 1) marks) at is (All-weaker (λ mark. mark ≤ at) (λ mark. mark ≤ at + 1) (λ mark l. omega arith) marks all)
 
 -- one of two, the second exchanged
 pub either_iff : {N A B C : Type 0} → N ↔ (A ⊎ B) → B ↔ C → N ↔ (A ⊎ C)

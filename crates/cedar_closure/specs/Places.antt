@@ -5,6 +5,7 @@ use Rattle.std.specs.declared.cmp.Ordering.{Ordering}
 use Rattle.std.specs.List.{position, filter_map, flat_map}
 use Rattle.std.specs.List.Sorted.{IsStrictlySortedBy}
 use Rattle.std.specs.BTreeMap.{is_at}
+use Rattle.std.specs.Map.{keys_of}
 use Rattle.cedar_data.specs.Sets.{contains}
 use Rattle.cedar_closure.specs.Chains.{Reaches}
 use Rattle.cedar_closure.specs.Closure.{edges_at}
@@ -15,9 +16,15 @@ module _ {K : Type 0} (cmp : K → K → Ordering) where
   abbrev pub place : List K → K → Option ℕ
   place keys key = position (is_at (cmp key)) keys
 
-  -- the new keys are the old ones and the others
-  abbrev pub AddsAll : List K → List K → List K → Type 0
-  AddsAll old new others = (key : K) → contains cmp new key ≡ (contains cmp old key || contains cmp others key)
+  -- the keys are all of these, each once, in order
+  pub record PutsInOrder (all keys : List K) : Type 0 where
+    pub ordered : IsStrictlySortedBy cmp keys
+    pub same : (key : K) → contains cmp keys key ≡ contains cmp all key
+
+  -- but for the known keys, the new keys are the old ones and the others
+  abbrev pub AddsBeside : List K → List K → List K → List K → Type 0
+  AddsBeside known old new others =
+      (key : K) → (contains cmp known key || contains cmp new key) ≡ (contains cmp known key || (contains cmp old key || contains cmp others key))
 
   -- from the first key, a chain of rows leads to the second
   abbrev pub Chained : List K → List (List ℕ) → K → K → Type 0
@@ -27,6 +34,10 @@ module _ {K V : Type 0} (cmp : K → K → Ordering) (edges : V → List K) wher
   -- each key of a node and of an edge
   abbrev pub named : List (K × V) → List K
   named nodes = flat_map (λ entry. entry.0 ∷ edges entry.1) nodes
+
+  -- the others are the keys of edges, but for those of nodes
+  abbrev pub NamesBeside : List (K × V) → List K → Type 0
+  NamesBeside nodes others = (key : K) → (contains cmp (keys_of nodes) key || contains cmp others key) ≡ contains cmp (named nodes) key
 
   -- the keys are those of nodes and edges, each once, in order; and so are the edges of each node
   pub record AreKeysOf (nodes : List (K × V)) (keys : List K) : Type 0 where

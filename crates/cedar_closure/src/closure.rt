@@ -1,5 +1,5 @@
 // SPDX-License-Identifier: Apache-2.0
-ghost use Rattle.std.specs.Prelude.{◌≡◌, ◌<◌, ◌≤◌, ◌+◌, ◌↔◌, ◌⊎◌, length, replicate, IsTrue, IfOk, OnOk, All, Contains, IsSomeAnd};
+ghost use Rattle.std.specs.Prelude.{◌≡◌, ◌<◌, ◌≤◌, ◌+◌, ◌↔◌, ◌⊎◌, [], false, length, replicate, IsTrue, IfOk, OnOk, All, Contains, IsSomeAnd};
 ghost use Rattle.std.specs.List.Sorted.{IsStrictlySortedBy};
 ghost use Rattle.cedar_data.specs.Sets.{contains};
 ghost use Rattle.cedar_text.specs.Failures.{IfRefused};
@@ -64,13 +64,50 @@ fn close_nodes<K: TcKey, V: TcNode<K>>(
 {
     let mut closed = Map::new(alloc);
     for (key, mut node) in nodes.into_entries() {
-        let returns = close_node(alloc, keys, rows, marks, &key, &mut node)?;
+        let returns = close_any_edges(alloc, keys, rows, marks, &key, &mut node)?;
         if returns && enforce_dag {
             return Err(Failure::Refused(TcError::HasCycle { vertex: key }));
         }
         closed.push_last(key, node)?;
     }
     Ok(closed)
+}
+
+/// Whether an edge leads from the node.
+fn has_edge<K: TcKey, V: TcNode<K>>(node: &V) -> bool
+    ensures { (result ≡ false) → (V.edges node.now ≡ []) }
+{
+    node.out_edges().next().is_some()
+}
+
+/// Adds an edge to each key to which a chain of rows leads from `key`, and answers whether one leads back to it. From a
+/// node without edges none does, so that such a node takes no search.
+fn close_any_edges<K: TcKey, V: TcNode<K>>(
+    alloc: Global,
+    keys: &[K],
+    rows: &[Items<usize>],
+    marks: &mut [usize],
+    key: &K,
+    node: &mut V,
+) -> Mem<bool>
+    requires ordered { IsStrictlySortedBy K.cmp keys.now }
+    requires within { LeadWithin rows.now }
+    requires one_each { (length rows.now ≡ length keys.now) × (length marks.old ≡ length rows.now) }
+    requires ascends { IsStrictlySortedBy K.cmp (V.edges node.old) }
+    requires begun { (V.edges node.old ≡ []) → (to : K) → Chained K.cmp keys.now rows.now key.now to → ⊥ }
+    requires earlier { IsSomeAnd (place K.cmp keys.now key.now) (λ at. All (λ mark. mark ≤ at) marks.old) }
+    ensures leads { OnOk result ((to : K) → IsTrue (contains K.cmp (V.edges node.new) to)
+        ↔ (IsTrue (contains K.cmp (V.edges node.old) to) ⊎ Chained K.cmp keys.now rows.now key.now to)) }
+    ensures ascends { OnOk result (IsStrictlySortedBy K.cmp (V.edges node.new)) }
+    ensures same_key { OnOk result (V.key node.new ≡ V.key node.old) }
+    ensures same_rest { OnOk result (V.rest node.new ≡ V.rest node.old) }
+    ensures returns { IfOk result (λ returns. IsTrue returns ↔ Chained K.cmp keys.now rows.now key.now key.now) }
+    ensures latest { OnOk result (IsSomeAnd (place K.cmp keys.now key.now) (λ at. All (λ mark. mark ≤ at + 1) marks.new)) }
+{
+    if has_edge(node) {
+        return close_node(alloc, keys, rows, marks, key, node);
+    }
+    Ok(false)
 }
 
 /// Adds an edge to each key to which a chain of rows leads from `key`, and answers whether one leads back to it.

@@ -1,46 +1,67 @@
 // SPDX-License-Identifier: Apache-2.0
-ghost use Rattle.std.specs.Prelude.{◌≡◌, IfOk, OnOk};
+ghost use Rattle.std.specs.Prelude.{◌≡◌, ◌∷◌, ◌++◌, [], All, IfOk, OnOk};
 ghost use Rattle.std.specs.List.{filter_map};
 ghost use Rattle.std.specs.List.Sorted.{IsStrictlySortedBy};
+ghost use Rattle.std.specs.Map.{keys_of};
 ghost use Rattle.cedar_data.specs.Sets.{Adds};
-ghost use Rattle.cedar_closure.specs.Places.{AddsAll, AreKeysOf, place, row_at, rows_at};
+ghost use Rattle.cedar_closure.specs.Places.{PutsInOrder, AddsBeside, NamesBeside, AreKeysOf, place, row_at, rows_at};
 
 use crate::tc_node::{TcKey, TcNode};
-use cedar_data::{Items, Map, Mem, Set, SetIter};
+use cedar_data::{Items, Map, Mem, Set};
 use std::alloc::Global;
+use std::collections::BTreeSet;
 
-/// The keys of the nodes and of their edges, each once, in their order.
+/// The keys of the nodes and of their edges, each once, in their order. Those of the nodes are in order already, so
+/// only keys where no node stands are searched for.
 pub(crate) fn keys_of_nodes<K: TcKey, V: TcNode<K>>(alloc: Global, nodes: &Map<K, V>) -> Mem<Vec<K>>
     ensures { IfOk result (λ keys. AreKeysOf K.cmp V.edges nodes.now keys.items) }
 {
-    let mut set = Set::new(alloc);
-    for (key, node) in nodes.iter() {
-        add_key(alloc, &mut set, key)?;
-        add_edges(alloc, &mut set, node)?;
-    }
-    copies(alloc, &set)
+    let others = other_targets(alloc, nodes)?;
+    let mut keys = copies_of_keys(alloc, nodes)?;
+    push_copies(alloc, &others, &mut keys)?;
+    in_order(alloc, keys)
 }
 
-/// Copies of the keys of the set, in their order.
-fn copies<K: TcKey>(alloc: Global, set: &Set<K>) -> Mem<Vec<K>>
-    ensures same { IfOk result (λ keys. keys.items ≡ set.now) }
-    ensures ordered { IsStrictlySortedBy K.cmp set.now }
+/// The keys to which edges lead, and at which no node stands.
+fn other_targets<K: TcKey, V: TcNode<K>>(alloc: Global, nodes: &Map<K, V>) -> Mem<Set<K>>
+    ensures beside { IfOk result (λ others. NamesBeside K.cmp V.edges nodes.now others) }
+    ensures edges_ordered { OnOk result (All (λ entry. IsStrictlySortedBy K.cmp (V.edges entry.1)) nodes.now) }
 {
-    let mut keys = Vec::new(alloc);
-    for key in set.iter() {
-        let copy = key.dup(alloc)?;
-        keys.push(copy)?;
+    let mut others = Set::new(alloc);
+    for (_, node) in nodes.iter() {
+        add_other_targets(alloc, nodes, node, &mut others)?;
     }
-    Ok(keys)
+    Ok(others)
 }
 
-/// Puts copies of the keys to which the edges of the node lead into the set.
-fn add_edges<K: TcKey, V: TcNode<K>>(alloc: Global, set: &mut Set<K>, node: &V) -> Mem<()>
-    ensures adds { OnOk result (AddsAll K.cmp set.old set.new (V.edges node.now)) }
+/// Puts copies of the keys to which the edges of the node lead into the set, but for those of nodes.
+fn add_other_targets<K: TcKey, V: TcNode<K>>(
+    alloc: Global,
+    nodes: &Map<K, V>,
+    node: &V,
+    others: &mut Set<K>,
+) -> Mem<()>
+    ensures adds { OnOk result (AddsBeside K.cmp (keys_of nodes.now) others.old others.new (V.edges node.now)) }
     ensures ordered { IsStrictlySortedBy K.cmp (V.edges node.now) }
 {
     for key in node.out_edges() {
-        add_key(alloc, set, key)?;
+        add_other_target(alloc, nodes, key, others)?;
+    }
+    Ok(())
+}
+
+/// Puts a copy of the key into the set, if no node stands at it and no equal key is there.
+#[tactic(auto, using(crate::proofs::Naming::beside_rules))]
+fn add_other_target<K: TcKey, V: TcNode<K>>(
+    alloc: Global,
+    nodes: &Map<K, V>,
+    key: &K,
+    others: &mut Set<K>,
+) -> Mem<()>
+    ensures { OnOk result (AddsBeside K.cmp (keys_of nodes.now) others.old others.new (key.now ∷ [])) }
+{
+    if !nodes.contains_key(key) {
+        add_key(alloc, others, key)?;
     }
     Ok(())
 }
@@ -54,6 +75,41 @@ fn add_key<K: TcKey>(alloc: Global, set: &mut Set<K>, key: &K) -> Mem<()>
         set.insert(copy)?;
     }
     Ok(())
+}
+
+/// Copies of the keys of the nodes, in their order.
+fn copies_of_keys<K: TcKey, V: TcNode<K>>(alloc: Global, nodes: &Map<K, V>) -> Mem<Vec<K>>
+    ensures { IfOk result (λ keys. keys.items ≡ keys_of nodes.now) }
+{
+    let mut keys = Vec::new(alloc);
+    for (key, _) in nodes.iter() {
+        let copy = key.dup(alloc)?;
+        keys.push(copy)?;
+    }
+    Ok(keys)
+}
+
+/// Puts copies of the keys of the set behind the keys.
+fn push_copies<K: TcKey>(alloc: Global, set: &Set<K>, keys: &mut Vec<K>) -> Mem<()>
+    ensures { OnOk result (keys.new.items ≡ keys.old.items ++ set.now) }
+{
+    for key in set.iter() {
+        let copy = key.dup(alloc)?;
+        keys.push(copy)?;
+    }
+    Ok(())
+}
+
+/// The keys, each once, in their order.
+fn in_order<K: Ord + Drop>(alloc: Global, keys: Vec<K>) -> Mem<Vec<K>>
+    ensures { IfOk result (λ sorted. PutsInOrder K.cmp keys.items sorted.items) }
+{
+    let set: BTreeSet<K> = BTreeSet::from_iter(alloc, keys)?;
+    let mut sorted = Vec::new(alloc);
+    for key in set {
+        sorted.push(key)?;
+    }
+    Ok(sorted)
 }
 
 /// The position of the key among keys in order.

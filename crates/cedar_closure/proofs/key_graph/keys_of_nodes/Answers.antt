@@ -1,7 +1,13 @@
 -- SPDX-License-Identifier: Apache-2.0
-use Rattle.std.proofs.Common.{refl}
-use Rattle.cedar_closure.proofs.Naming.{NamesSome-next}
+use Rattle.std.proofs.Common.{ap, ◌++◌, ◌∙◌}
+use Rattle.std.proofs.lemmas.Result.{IfOk-weaker}
+use Rattle.cedar_closure.proofs.Naming.{keys_made}
 use Rattle.cedar_closure.proofs.key_graph.keys_of_nodes.Goals as goal
 
-pub loop-key-preserved : goal.loop-key-preserved
-loop-key-preserved g c = NamesSome-next g.met.K.Ord.total c.add_key.new.set c.loop-key.invariant c.in-Some.ensures.steps refl refl c.in_ok-add_key.ensures c.in_ok-add_edges.ensures.adds c.add_edges.ensures.ordered
+pub returns : goal.returns
+returns g c =
+    IfOk-weaker c.in_order.result _ _
+    (λ keys sorts.
+        keys_made c.in_ok-others.others c.in_ok-others.ensures.beside c.in_ok-others.ensures.edges_ordered
+        (c.in_ok-push_copies.ensures ∙ ap (λ l. l ++ c.in_ok-others.others) c.in_ok-keys.ensures) sorts.ordered sorts.same)
+    c.in_order.ensures
