@@ -7,3 +7,4 @@ pub mod KeyChains
 pub mod Naming
 pub mod PlaceLemmas
 pub mod OneSet
+pub mod Sorted

@@ -119,8 +119,8 @@ module _ {K V : Type 0} where
         names_more (contains cmp (keys_of whole) k) (contains cmp new k) (contains cmp old k) (contains cmp (named cmp edges sofar.done) k) (is_at (cmp k) next) (contains cmp (edges value) k)
         (known k) (adds k ∙ ap (λ v. contains cmp (keys_of whole) k || (contains cmp old k || contains cmp (edges v) k)) same) (sofar.names k)
         ∙ ap (λ b. contains cmp (keys_of whole) k || b) (
-          sym (list_any-append (is_at (cmp k)) (named cmp edges sofar.done) (next ∷ edges value))
-          ∙ ap (λ l. contains cmp l k) (flat_map_more (λ entry. entry.0 ∷ edges entry.1) [] sofar.done (next, value))
+        sym (list_any-append (is_at (cmp k)) (named cmp edges sofar.done) (next ∷ edges value))
+        ∙ ap (λ l. contains cmp l k) (flat_map_more (λ entry. entry.0 ∷ edges entry.1) [] sofar.done (next, value))
         );
     ordered = All-push (λ entry. IsStrictlySortedBy cmp (edges entry.1)) sofar.done (next, value) sofar.ordered (subst (λ v. IsStrictlySortedBy cmp (edges v)) same ascends);
   }

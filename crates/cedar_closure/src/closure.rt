@@ -1,6 +1,8 @@
 // SPDX-License-Identifier: Apache-2.0
-ghost use Rattle.std.specs.Prelude.{◌≡◌, ◌<◌, ◌≤◌, ◌+◌, ◌↔◌, ◌⊎◌, [], false, length, replicate, IsTrue, IfOk, OnOk, All, Contains, IsSomeAnd};
+ghost use Rattle.std.specs.Prelude.{◌≡◌, ◌<◌, ◌≤◌, ◌+◌, ◌↔◌, ◌⊎◌, [], ◌∷◌, false, length, replicate, IsTrue, IfOk, OnOk, All, Contains, IsSomeAnd};
 ghost use Rattle.std.specs.List.Sorted.{IsStrictlySortedBy};
+ghost use Rattle.std.specs.Map.{keys_of};
+ghost use Rattle.cedar_data.specs.Maps.{IsSortedMap};
 ghost use Rattle.cedar_data.specs.Sets.{contains};
 ghost use Rattle.cedar_text.specs.Failures.{IfRefused};
 ghost use Rattle.cedar_closure.specs.Closure.{IsClosure, IsAcyclic, IsLeastOnCycle};
@@ -62,15 +64,37 @@ fn close_nodes<K: TcKey, V: TcNode<K>>(
     ensures refused { IfRefused result (λ error. IsTrue enforce_dag ×
         ((vertex : K) × (error ≡ HasCycle vertex) × IsLeastOnCycle K.cmp V.edges nodes vertex)) }
 {
-    let mut closed = Map::new(alloc);
+    let mut closed = Vec::new(alloc);
     for (key, mut node) in nodes.into_entries() {
         let returns = close_any_edges(alloc, keys, rows, marks, &key, &mut node)?;
         if returns && enforce_dag {
             return Err(Failure::Refused(TcError::HasCycle { vertex: key }));
         }
-        closed.push_last(key, node)?;
+        closed.push((key, node))?;
     }
-    Ok(closed)
+    let closed_nodes = map_of_sorted(alloc, closed)?;
+    Ok(closed_nodes)
+}
+
+/// The map of entries that are in the order of their keys. From the greatest on, putting them in takes the fewest
+/// comparisons.
+fn map_of_sorted<K: Ord + Drop, V: Drop>(alloc: Global, mut entries: Vec<(K, V)>) -> Mem<Map<K, V>>
+    requires { IsSortedMap K.cmp entries.items }
+    ensures { IfOk result (λ map. map ≡ entries.items) }
+{
+    let mut map = Map::new(alloc);
+    while let Some((key, value)) = entries.pop() {
+        put_first(&mut map, key, value)?;
+    }
+    Ok(map)
+}
+
+/// Puts an entry before all others.
+fn put_first<K: Ord + Drop, V: Drop>(map: &mut Map<K, V>, key: K, value: V) -> Mem<()>
+    requires { IsStrictlySortedBy K.cmp (key ∷ keys_of map.old) }
+    ensures { OnOk result (map.new ≡ (key, value) ∷ map.old) }
+{
+    map.put(key, value)
 }
 
 /// Whether an edge leads from the node.

@@ -8,6 +8,6 @@ pub returns : goal.returns
 returns g c =
     IfOk-weaker c.in_order.result _ _
     (λ keys sorts.
-        keys_made c.in_ok-others.others c.in_ok-others.ensures.beside c.in_ok-others.ensures.edges_ordered
-        (c.in_ok-push_copies.ensures ∙ ap (λ l. l ++ c.in_ok-others.others) c.in_ok-keys.ensures) sorts.ordered sorts.same)
+    keys_made c.in_ok-others.others c.in_ok-others.ensures.beside c.in_ok-others.ensures.edges_ordered
+    (c.in_ok-push_copies.ensures ∙ ap (λ l. l ++ c.in_ok-others.others) c.in_ok-keys.ensures) sorts.ordered sorts.same)
     c.in_order.ensures
