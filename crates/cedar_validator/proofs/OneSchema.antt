@@ -173,7 +173,7 @@ unkept is_extension (s ∷ ss) built word h =
     by : (t : Bool) → bytes_eq word s.0 ≡ t → is_unbuilt is_extension s ≡ false → has_word (keys_of ss) word ≡ false → (bytes_eq word s.0 || has_word (keys_of ss) word) ≡ false
     by true e b r =
         let here : is_unbuilt is_extension s ≡ true =
-            or_left (has_word kept_names s.0) (is_extension s.0 || list_any is_extension (type_words s.1.attributes)) (kept s.0 (ap (has_word primitive_words) (sym (same_word word s.0 e)) ∙ h))
+        or_left (has_word kept_names s.0) (is_extension s.0 || list_any is_extension (type_words s.1.attributes)) (kept s.0 (ap (has_word primitive_words) (sym (same_word word s.0 e)) ∙ h))
         in
         let no : true ≡ false = sym here ∙ b in
         cc
