@@ -1,7 +1,3 @@
 -- SPDX-License-Identifier: Apache-2.0
 pub mod Types
-pub mod Chains
-pub mod Marks
-pub mod Closure
-pub mod Places
-pub mod TcErrors
+pub mod Sameness

@@ -14,10 +14,10 @@ use Rattle.cedar_names.specs.declared.name.EntityType.{EntityType}
 use Rattle.cedar_types.specs.Types.{entries}
 use Rattle.cedar_types.specs.declared.ty.Attributes.{Attributes}
 use Rattle.cedar_data.specs.Sets.{contains}
-use Rattle.cedar_validator.specs.Building.{Gathers, Adds}
+use Rattle.cedar_validator.specs.Building.{HasTypesBelow, Gathers, Adds}
 use Rattle.cedar_validator.specs.Children.{children_at}
 use Rattle.cedar_validator.specs.Declarations.{first_undefined, undeclared, or_else, missing_in}
-use Rattle.cedar_validator.specs.Denotes.{IsTypeNamed, HasBelow, DenotesAttribute, DenotesEntry}
+use Rattle.cedar_validator.specs.Denotes.{IsTypeNamed, DenotesAttribute, DenotesEntry}
 use Rattle.cedar_validator.specs.Descents.{Kin, Member}
 use Rattle.cedar_validator.specs.Schemas.{type_name, type_descendants, type_attributes}
 use Rattle.cedar_validator.specs.Shapes.{attribute_trees, kept_entry, shape_of}
@@ -61,7 +61,7 @@ behind_nil (x ∷ xs) ys e = cc
 
 module _ (declared : List ℕ → Bool) (kin : Kin) (name : UnreservedId) (shape : EntityShape) (old : List (EntityType × ValidatorEntityType)) where
   abbrev pub Add : List (EntityType × ValidatorEntityType) → List (List ℕ) → List (List ℕ) → Type 0
-  Add new before after = Adds (λ e. missing_in declared (kept_entry e).1) (λ e entry. DenotesEntry declared (Member kin) (kept_entry e) entry) entity_cmp (name, shape) old new before after
+  Add new before after = Adds (λ e. missing_in declared (kept_entry e).1) (λ e entry. DenotesEntry declared (HasTypesBelow (Member kin)) (kept_entry e) entry) entity_cmp (name, shape) old new before after
 
   abbrev told : List ℕ → Bool
   told parent = not (declared parent)
@@ -109,7 +109,7 @@ module _ (declared : List ℕ → Bool) (kin : Kin) (name : UnreservedId) (shape
         named,
         record {
           name_is = ap entity_words (called ∙ same) ∙ named;
-          descendants_are = subst (λ (cs : List EntityType). HasBelow IsTypeNamed (Member kin) (unreserved_word name) (contains entity_cmp cs)) (sym below) (gathers (unreserved_word name));
+          descendants_are = subst (λ (cs : List EntityType). HasTypesBelow (Member kin) (unreserved_word name) cs) (sym below) (gathers (unreserved_word name));
           attributes_are = subst (λ (as' : Attributes). AllZip (DenotesAttribute declared) (attribute_trees shape.attributes) (entries as')) (sym has) each;
         },
       ),

@@ -10,10 +10,10 @@ use Rattle.std.proofs.lemmas.Map.Text.{is_eq-slice_cmp}
 use Rattle.cedar_data.specs.Maps.{get}
 use Rattle.cedar_data.specs.Sets.{contains}
 use Rattle.cedar_text.specs.Words.{has_word}
-use Rattle.cedar_types.specs.Chains.{Reaches, one, more}
-use Rattle.cedar_types.specs.Closure.{HasEdge, edges_of, edges_at, IsLeastOnCycle}
-use Rattle.cedar_types.specs.Closure as closure
-use Rattle.cedar_validator.specs.Denotes.{HasBelow}
+use Rattle.cedar_closure.specs.Chains.{Reaches, one, more}
+use Rattle.cedar_closure.specs.Closure.{HasEdge, edges_of, edges_at, IsLeastOnCycle}
+use Rattle.cedar_closure.specs.Closure as closure
+use Rattle.cedar_validator.specs.Building.{HasBelow}
 use Rattle.cedar_validator.specs.Descents.{Kin, is_member, Member, Descends}
 use Rattle.cedar_validator.specs.WellFormed.{IsAcyclic, IsLeastCyclic}
 use Rattle.cedar_validator.proofs.NamedKeys.{Names, from_eq, one_word}

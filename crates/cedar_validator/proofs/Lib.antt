@@ -12,6 +12,8 @@ pub mod JoinedTexts
 pub mod Meanings
 pub mod NamedKeys
 pub mod Naming
+pub mod OneSchema
+pub mod OneText
 pub mod Resolving
 pub mod ShapesLemmas
 pub mod WordLists

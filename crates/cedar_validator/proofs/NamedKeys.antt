@@ -31,7 +31,7 @@ word_itself w = from_eq (word_cmp w w) (is_eq-slice_cmp w w ∙ same_itself w)
 pub word_same : (v w : List ℕ) → word_cmp v w ≡ Equal → v ≡ w
 word_same v w e = same_word v w (sym (is_eq-slice_cmp v w) ∙ ap is_eq e)
 
-then_both : (o p : Ordering) → ordering_then o p ≡ Equal → (o ≡ Equal) × (p ≡ Equal)
+pub then_both : (o p : Ordering) → ordering_then o p ≡ Equal → (o ≡ Equal) × (p ≡ Equal)
 then_both Less p e = cc
 then_both Equal p e = (refl, e)
 then_both Greater p e = cc

@@ -13,9 +13,9 @@ use Rattle.cedar_text.specs.Failures.{IfRefused}
 use Rattle.cedar_text.specs.Lists.{elements}
 use Rattle.cedar_text.specs.Words.{has_word}
 use Rattle.cedar_plain.specs.Plain.{DeclTree}
-use Rattle.cedar_validator.specs.Building.{IsOnCycle}
+use Rattle.cedar_validator.specs.Building.{HasActionsBelow, IsOnCycle}
 use Rattle.cedar_validator.specs.Declarations.{Shaped, declared_types, declared_actions, shapes, actions, kin_of, world, is_unbuilt, are_distinct, IsFirstRepeat, missing, missing_of, misses_parent, missing_actions, missing_parents}
-use Rattle.cedar_validator.specs.Denotes.{IsActionNamed, DenotesEntry, DenotesActionEntry, Denotes}
+use Rattle.cedar_validator.specs.Denotes.{AreTypesBelow, AreActionsBelow, IsActionNamed, DenotesEntry, DenotesActionEntry, Denotes}
 use Rattle.cedar_validator.specs.Descents.{Kin, Member, Descends}
 use Rattle.cedar_validator.specs.Schemas.{types, action_types}
 use Rattle.cedar_validator.specs.Shapes.{Kept, shape_of, kept_shapes, declares}
@@ -31,7 +31,7 @@ use Rattle.cedar_validator.proofs.WordLists.{has_word-made, same_words}
 
 -- a world whose actions have a cycle
 pub cycle_refused : (kept : Kept) (kin : Kin) (ids : List (EntityUID × ValidatorActionId)) {T : Type 0} (r : Result T (Failure CedarSchemaError)) (f : Failure CedarSchemaError)
-    → AllZip (DenotesActionEntry (Member kin)) kin ids → missing_of (declares kept) (kept_shapes kept) ≡ [] → missing_parents (has_word (keys_of kin)) kin ≡ []
+    → AllZip (DenotesActionEntry (HasActionsBelow (Member kin))) kin ids → missing_of (declares kept) (kept_shapes kept) ≡ [] → missing_parents (has_word (keys_of kin)) kin ≡ []
     → r ≡ Err f → IfRefused r (IsOnCycle ids) → IfRefused {T = ValidatorSchema} (Err f) (WorldFault kept kin)
 cycle_refused kept kin ids {T} r (Refused e) each defined actions_defined is refused =
     let told : IsOnCycle ids e = subst (λ (x : Result T (Failure CedarSchemaError)). IfRefused x (IsOnCycle ids)) is refused in
@@ -105,9 +105,9 @@ module _ (is_extension : List ℕ → Bool) (ds : List DeclTree) (kept : Kept) (
 
   denotes : (schema : ValidatorSchema) → DenotesWorld kept kin schema → Denotes ds schema
   denotes schema d = record {
-    types_are = subst (λ (ss : Shaped). AllZip (DenotesEntry (has_word (declared_types ds)) (Descends (kin_of ss))) ss (types schema)) is.types_are
-        (subst (λ (f : List ℕ → Bool). AllZip (DenotesEntry f (Descends (kin_of (kept_shapes kept)))) (kept_shapes kept) (types schema)) declared_is d.types_are);
-    actions_are = subst (λ (k : Kin). AllZip (DenotesActionEntry (Descends k)) k (action_types schema)) is.actions_are d.actions_are;
+    types_are = subst (λ (ss : Shaped). AllZip (DenotesEntry (has_word (declared_types ds)) (AreTypesBelow (Descends (kin_of ss)))) ss (types schema)) is.types_are
+        (subst (λ (f : List ℕ → Bool). AllZip (DenotesEntry f (AreTypesBelow (Descends (kin_of (kept_shapes kept))))) (kept_shapes kept) (types schema)) declared_is d.types_are);
+    actions_are = subst (λ (k : Kin). AllZip (DenotesActionEntry (AreActionsBelow (Descends k))) k (action_types schema)) is.actions_are d.actions_are;
   }
 
   -- what the declarations of a world resolve to

@@ -9,12 +9,13 @@ use Rattle.cedar_names.specs.Order.{word_cmp}
 use Rattle.cedar_text.specs.Words.{has_word, primitive_words}
 use Rattle.cedar_plain.specs.Plain.{DeclTree, Entities, Actions, TypeTree, Named, SetOf}
 use Rattle.cedar_validator.specs.Descents.{Kin}
+use Rattle.cedar_validator.specs.Sets.{set_of}
 
 -- written attributes by name, in order; where a name stands twice, the last counts
 abbrev pub by_name : List (List ℕ × TypeTree) → List (List ℕ × TypeTree)
 by_name attributes = map_of word_cmp attributes
 
--- what is declared of an entity type: its parents in the order of the text, and its attributes by name
+-- what is declared of an entity type: its parents as a set, in the order of their words, and its attributes by name
 pub record Shape : Type 0 where
   pub parents : List (List ℕ)
   pub attributes : List (List ℕ × TypeTree)
@@ -25,13 +26,13 @@ Shaped = List (List ℕ × Shape)
 
 -- the entity types of a declaration, each with its shape
 abbrev pub entity_shapes : DeclTree → Shaped
-entity_shapes (Entities names parents attributes) = map (λ name. (name, record { parents = parents; attributes = by_name attributes })) names
+entity_shapes (Entities names parents attributes) = map (λ name. (name, record { parents = set_of word_cmp parents; attributes = by_name attributes })) names
 entity_shapes (Actions names parents) = []
 
--- the actions of a declaration, each with its parents
+-- the actions of a declaration, each with its parents as a set
 abbrev pub action_parents : DeclTree → Kin
 action_parents (Entities names parents attributes) = []
-action_parents (Actions names parents) = map (λ name. (name, parents)) names
+action_parents (Actions names parents) = map (λ name. (name, set_of word_cmp parents)) names
 
 -- each declared entity type, in the order of the text, with its shape
 abbrev pub shapes : List DeclTree → Shaped
@@ -108,7 +109,7 @@ is_defined declared word = has_word primitive_words word || declared word
 abbrev pub first_undefined : (List ℕ → Bool) → List (List ℕ × TypeTree) → Option (List ℕ)
 first_undefined declared attributes = find (λ word. not (is_defined declared word)) (type_words attributes)
 
--- the parents that aren't declared, in the order of the text
+-- the parents that aren't declared
 abbrev pub undeclared : (List ℕ → Bool) → List (List ℕ) → List (List ℕ)
 undeclared declared parents = filter (λ parent. not (declared parent)) parents
 
@@ -117,7 +118,7 @@ abbrev pub or_else : List (List ℕ) → List (List ℕ) → List (List ℕ)
 or_else [] other = other
 or_else (word ∷ words) other = word ∷ words
 
--- what a shape refers to in vain: all its parents that aren't declared, or where there are none its first type word that means nothing
+-- what a shape refers to in vain: all its parents that aren't declared, in order, each once, or where there are none its first type word that means nothing
 abbrev pub missing_in : (List ℕ → Bool) → Shape → List (List ℕ)
 missing_in declared s = or_else (undeclared declared s.parents) (option_to_list (first_undefined declared s.attributes))
 
@@ -135,7 +136,7 @@ misses_parent declared [] = false
 misses_parent declared (s ∷ ss) =
     list_any (λ parent. not (declared parent)) s.1.parents || (not (is_some (first_undefined declared s.1.attributes)) && misses_parent declared ss)
 
--- the parents of actions that aren't declared, of each action in order
+-- the parents of actions that aren't declared, of each action in order, each once
 abbrev pub missing_parents : (List ℕ → Bool) → Kin → List (List ℕ)
 missing_parents declared kin = flat_map (λ k. undeclared declared k.1) kin
 

@@ -1,8 +1,8 @@
 -- SPDX-License-Identifier: Apache-2.0
 -- The schema that declarations denote.
-use Rattle.std.specs.Prelude.{◌≡◌, ◌↔◌, ℕ, Bool, true, List, [], ◌∷◌, ◌⊎◌, codes, IsTrue}
+use Rattle.std.specs.Prelude.{◌≡◌, ℕ, Bool, true, List, [], ◌∷◌, ◌⊎◌, codes, IsTrue}
 use Rattle.std.specs.List.{AllZip}
-use Rattle.cedar_data.specs.Sets.{contains}
+use Rattle.cedar_closure.specs.Sets.{IsSetOf}
 use Rattle.cedar_names.specs.EntityUids.{eid_text, eid_of, entity_type_of}
 use Rattle.cedar_names.specs.Names.{entity_words, entity_cmp}
 use Rattle.cedar_names.specs.declared.entity_uid.EntityUID.{EntityUID}
@@ -51,33 +51,41 @@ abbrev pub DenotesAttribute : (List ℕ → Bool) → List ℕ × TypeTree → L
 DenotesAttribute declared written attribute =
     (attribute.0 ≡ written.0) × (attribute.1.is_required ≡ true) × Unfolds declared written.1 attribute.1.attr_type
 
--- the test holds of exactly those whose word is below this name
-abbrev pub HasBelow : {C : Type 0} → (C → List ℕ → Type 0) → (List ℕ → List ℕ → Type 0) → List ℕ → (C → Bool) → Type 0
-HasBelow {C} IsNamed Below name has = (c : C) → IsTrue (has c) ↔ ((word : List ℕ) × IsNamed c word × Below word name)
+-- its word is below this name
+abbrev pub IsBelow : {C : Type 0} → (C → List ℕ → Type 0) → (List ℕ → List ℕ → Type 0) → List ℕ → C → Type 0
+IsBelow IsNamed Below name c = (word : List ℕ) × IsNamed c word × Below word name
 
--- an entity type of this name, with those below it as descendants and these attributes, one for each written one in order
-pub record DenotesType (declared : List ℕ → Bool) (Below : List ℕ → List ℕ → Type 0) (name : List ℕ) (attributes : List (List ℕ × TypeTree)) (ty : ValidatorEntityType) : Type 0 where
+-- the set of the entity types whose word is below this name
+abbrev pub AreTypesBelow : (List ℕ → List ℕ → Type 0) → List ℕ → List EntityType → Type 0
+AreTypesBelow Below name = IsSetOf entity_cmp (IsBelow IsTypeNamed Below name)
+
+-- the set of the actions whose word is below this name
+abbrev pub AreActionsBelow : (List ℕ → List ℕ → Type 0) → List ℕ → List EntityUID → Type 0
+AreActionsBelow Below name = IsSetOf uid_cmp (IsBelow IsActionNamed Below name)
+
+-- an entity type of this name, with descendants that are those of the name, and these attributes, one for each written one in order
+pub record DenotesType (declared : List ℕ → Bool) (AreBelow : List ℕ → List EntityType → Type 0) (name : List ℕ) (attributes : List (List ℕ × TypeTree)) (ty : ValidatorEntityType) : Type 0 where
   pub name_is : IsTypeNamed (type_name ty) name
-  pub descendants_are : HasBelow IsTypeNamed Below name (contains entity_cmp (type_descendants ty))
+  pub descendants_are : AreBelow name (type_descendants ty)
   pub attributes_are : AllZip (DenotesAttribute declared) attributes (entries (type_attributes ty))
 
 -- an entry for a shape: the entity type of that name, under its own name
-abbrev pub DenotesEntry : (List ℕ → Bool) → (List ℕ → List ℕ → Type 0) → List ℕ × Shape → EntityType × ValidatorEntityType → Type 0
-DenotesEntry declared Below shape entry = IsTypeNamed entry.0 shape.0 × DenotesType declared Below shape.0 shape.1.attributes entry.1
+abbrev pub DenotesEntry : (List ℕ → Bool) → (List ℕ → List EntityType → Type 0) → List ℕ × Shape → EntityType × ValidatorEntityType → Type 0
+DenotesEntry declared AreBelow shape entry = IsTypeNamed entry.0 shape.0 × DenotesType declared AreBelow shape.0 shape.1.attributes entry.1
 
--- an action of this name, with those below it as descendants, without principals and resources, and with an empty context
-pub record DenotesAction (Below : List ℕ → List ℕ → Type 0) (name : List ℕ) (action : ValidatorActionId) : Type 0 where
+-- an action of this name, with descendants that are those of the name, without principals and resources, and with an empty context
+pub record DenotesAction (AreBelow : List ℕ → List EntityUID → Type 0) (name : List ℕ) (action : ValidatorActionId) : Type 0 where
   pub name_is : IsActionNamed (action_name action) name
-  pub descendants_are : HasBelow IsActionNamed Below name (contains uid_cmp (action_descendants action))
+  pub descendants_are : AreBelow name (action_descendants action)
   pub no_principals : action_principals action ≡ []
   pub no_resources : action_resources action ≡ []
   pub empty : action_context action ≡ empty_context
 
 -- an entry for a declared action: the action of that name, under its own name
-abbrev pub DenotesActionEntry : (List ℕ → List ℕ → Type 0) → List ℕ × List (List ℕ) → EntityUID × ValidatorActionId → Type 0
-DenotesActionEntry Below declared entry = IsActionNamed entry.0 declared.0 × DenotesAction Below declared.0 entry.1
+abbrev pub DenotesActionEntry : (List ℕ → List EntityUID → Type 0) → List ℕ × List (List ℕ) → EntityUID × ValidatorActionId → Type 0
+DenotesActionEntry AreBelow declared entry = IsActionNamed entry.0 declared.0 × DenotesAction AreBelow declared.0 entry.1
 
--- the schema that the declarations denote: an entity type for each declared one in order, an action for each declared one in order, and no others; the descendants of each are those that descend from it
+-- the schema that the declarations denote: an entity type for each declared one in order, an action for each declared one in order, and no others; the descendants of each are the set of those that descend from it
 pub record Denotes (ds : List DeclTree) (schema : ValidatorSchema) : Type 0 where
-  pub types_are : AllZip (DenotesEntry (has_word (declared_types ds)) (Descends (kin_of (world ds)))) (world ds) (types schema)
-  pub actions_are : AllZip (DenotesActionEntry (Descends (action_world ds))) (action_world ds) (action_types schema)
+  pub types_are : AllZip (DenotesEntry (has_word (declared_types ds)) (AreTypesBelow (Descends (kin_of (world ds))))) (world ds) (types schema)
+  pub actions_are : AllZip (DenotesActionEntry (AreActionsBelow (Descends (action_world ds)))) (action_world ds) (action_types schema)

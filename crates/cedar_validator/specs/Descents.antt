@@ -3,9 +3,9 @@
 use Rattle.std.specs.Prelude.{ℕ, Bool, ◌&&◌, IsTrue, List, bytes_eq}
 use Rattle.std.specs.List.{list_any}
 use Rattle.cedar_text.specs.Words.{has_word}
-use Rattle.cedar_types.specs.Chains.{Reaches}
+use Rattle.cedar_closure.specs.Chains.{Reaches}
 
--- names, each with its parents in the order of the text
+-- names, each with its parents
 abbrev pub Kin : Type 0
 Kin = List (List ℕ × List (List ℕ))
 

@@ -7,15 +7,16 @@ use Rattle.cedar_data.specs.Maps.{map_of}
 use Rattle.std.specs.List.{AllZip, list_any}
 use Rattle.cedar_data.specs.declared.memory.Failure.{Failure}
 use Rattle.cedar_data.specs.declared.memory.Failure.TheVariants.{Refused, NoMemory}
-use Rattle.cedar_names.specs.Identifiers.{unreserved_word}
+use Rattle.cedar_names.specs.Identifiers.{id_word, unreserved_word}
 use Rattle.cedar_names.specs.Order.{word_cmp}
+use Rattle.cedar_names.specs.declared.id.Id.{Id}
 use Rattle.cedar_names.specs.declared.id.UnreservedId.{UnreservedId}
 use Rattle.cedar_names.specs.declared.entity_uid.EntityUID.{EntityUID}
 use Rattle.cedar_plain.specs.Plain.{DeclTree}
 use Rattle.cedar_text.specs.Words.{has_word}
 use Rattle.cedar_validator.specs.Building.{MissesTypes, MissesActions}
 use Rattle.cedar_validator.specs.Declarations.{declared_types, declared_actions, shapes, kin_of, world, action_world, is_unbuilt, are_distinct, AreDistinct, IsFirstRepeat, missing, missing_of, missing_actions, missing_parents}
-use Rattle.cedar_validator.specs.Denotes.{IsActionNamed, DenotesEntry, DenotesActionEntry, Denotes}
+use Rattle.cedar_validator.specs.Denotes.{IsActionNamed, AreTypesBelow, AreActionsBelow, DenotesEntry, DenotesActionEntry, Denotes}
 use Rattle.cedar_validator.specs.Descents.{Kin, Descends}
 use Rattle.cedar_validator.specs.Schemas.{types, action_types}
 use Rattle.cedar_validator.specs.Shapes.{Kept, kept_shapes, declares}
@@ -25,6 +26,9 @@ use Rattle.cedar_validator.specs.declared.errors.CedarSchemaError.TheVariants.{N
 use Rattle.cedar_validator.specs.declared.schema.ValidatorSchema.{ValidatorSchema}
 
 -- the order of identifiers, by their words
+abbrev pub id_cmp : Id → Id → Ordering
+id_cmp a b = word_cmp (id_word a) (id_word b)
+
 abbrev pub unreserved_cmp : UnreservedId → UnreservedId → Ordering
 unreserved_cmp a b = word_cmp (unreserved_word a) (unreserved_word b)
 
@@ -64,8 +68,8 @@ pub record DenotesWorld (kept : Kept) (actions : Kin) (schema : ValidatorSchema)
   pub defined : missing_of (declares kept) (kept_shapes kept) ≡ []
   pub actions_defined : missing_parents (has_word (keys_of actions)) actions ≡ []
   pub acyclic : IsAcyclic actions
-  pub types_are : AllZip (DenotesEntry (declares kept) (Descends (kin_of (kept_shapes kept)))) (kept_shapes kept) (types schema)
-  pub actions_are : AllZip (DenotesActionEntry (Descends actions)) actions (action_types schema)
+  pub types_are : AllZip (DenotesEntry (declares kept) (AreTypesBelow (Descends (kin_of (kept_shapes kept))))) (kept_shapes kept) (types schema)
+  pub actions_are : AllZip (DenotesActionEntry (AreActionsBelow (Descends actions))) actions (action_types schema)
 
 -- the error tells the least action that descends from itself
 pub record IsCyclic (kin : Kin) (e : CedarSchemaError) : Type 0 where

@@ -5,8 +5,8 @@ ghost use Rattle.std.specs.Map.{keys_of};
 ghost use Rattle.cedar_text.specs.Failures.{IfRefused};
 ghost use Rattle.cedar_text.specs.Lists.{elements};
 ghost use Rattle.cedar_text.specs.Words.{has_word};
-ghost use Rattle.cedar_types.specs.Closure.{IsClosure, IsAcyclic};
-ghost use Rattle.cedar_validator.specs.Building.{Gathers, PutsAction, MissesActions, IsOnCycle};
+ghost use Rattle.cedar_closure.specs.Closure.{IsClosure, IsAcyclic};
+ghost use Rattle.cedar_validator.specs.Building.{HasActionsBelow, Gathers, PutsAction, MissesActions, IsOnCycle};
 ghost use Rattle.cedar_validator.specs.Declarations.{undeclared, missing_parents};
 ghost use Rattle.cedar_validator.specs.Denotes.{IsTypeNamed, IsActionNamed, DenotesActionEntry};
 ghost use Rattle.cedar_validator.specs.Descents.{Kin, Member};
@@ -17,7 +17,7 @@ use crate::children::{Children, children_of, link};
 use crate::errors::CedarSchemaError;
 use crate::resolve::entity_named;
 use crate::world::ActionWorld;
-use cedar_data::{Dup, Failure, Items, Map, Mem, NoMemory, Out, Text};
+use cedar_data::{Dup, Failure, Items, Map, Mem, NoMemory, Out, Set, Text};
 use cedar_names::{Eid, EntityType, EntityUID, NonEmpty, UnreservedId};
 use cedar_types::{Attributes, OpenTag, TcError, Type, compute_tc};
 use std::alloc::Global;
@@ -83,7 +83,7 @@ fn is_declared_action(world: &ActionWorld, name: &Text) -> bool
 /// Keeps the parents that aren't declared as missing.
 fn keep_undeclared_actions(
     alloc: Global,
-    parents: &Items<Text>,
+    parents: &Set<Text>,
     world: &ActionWorld,
     missing: &mut Vec<Text>,
 ) -> Mem<()>
@@ -128,7 +128,7 @@ fn add_action(
 
 /// The actions of a world, with their children as descendants; refused with the parents that aren't declared.
 pub fn resolve_actions(alloc: Global, world: &ActionWorld) -> Out<Actions, CedarSchemaError>
-    ensures actions { IfOk result (λ actions. AllZip (DenotesActionEntry (Member world.now)) world.now actions) }
+    ensures actions { IfOk result (λ actions. AllZip (DenotesActionEntry (HasActionsBelow (Member world.now))) world.now actions) }
     ensures defined { IfOk result (λ actions. missing_parents (has_word (keys_of world.now)) world.now ≡ []) }
     ensures refused { IfRefused result (MissesActions (has_word (keys_of world.now)) world.now) }
 {

@@ -4,8 +4,8 @@ ghost use Rattle.std.specs.List.{AllZip, list_any};
 ghost use Rattle.cedar_names.specs.Identifiers.{id_word, id_words};
 ghost use Rattle.cedar_names.specs.Names.{entity_cmp};
 ghost use Rattle.cedar_text.specs.Failures.{IfRefused};
-ghost use Rattle.cedar_types.specs.Closure.{IsClosure};
-ghost use Rattle.cedar_validator.specs.Building.{Gathers, Adds, MissesTypes};
+ghost use Rattle.cedar_closure.specs.Closure.{IsClosure};
+ghost use Rattle.cedar_validator.specs.Building.{HasTypesBelow, Gathers, Adds, MissesTypes};
 ghost use Rattle.cedar_validator.specs.Declarations.{kin_of, undeclared, missing_in, missing_of, misses_parent};
 ghost use Rattle.cedar_validator.specs.Denotes.{IsTypeNamed, DenotesEntry};
 ghost use Rattle.cedar_validator.specs.Descents.{Member};
@@ -17,7 +17,7 @@ use crate::errors::CedarSchemaError;
 use crate::resolve::{entity_named, is_declared, misses_type, resolve_attributes};
 use crate::schema::ValidatorEntityType;
 use crate::world::{EntityShape, World};
-use cedar_data::{Dup, Failure, Items, Map, Mem, NoMemory, Out, Text};
+use cedar_data::{Dup, Failure, Map, Mem, NoMemory, Out, Set, Text};
 use cedar_names::{EntityType, Id, NonEmpty, UnreservedId};
 use cedar_types::compute_tc;
 use std::alloc::Global;
@@ -41,7 +41,7 @@ fn type_children(alloc: Global, world: &World) -> Mem<Children<EntityType>>
 /// Keeps the parents that aren't declared as missing, and answers whether there are any.
 fn keep_undeclared(
     alloc: Global,
-    parents: &Items<Id>,
+    parents: &Set<Id>,
     world: &World,
     missing: &mut Vec<Text>,
 ) -> Mem<bool>
@@ -71,7 +71,7 @@ fn add_type(
     missing: &mut Vec<Text>,
 ) -> Mem<()>
     requires { Gathers IsTypeNamed entity_cmp (kin_of (kept_shapes world.now)) children.now.entries }
-    ensures { OnOk result (Adds (λ e. missing_in (declares world.now) (kept_entry e).1) (λ e entry. DenotesEntry (declares world.now) (Member (kin_of (kept_shapes world.now))) (kept_entry e) entry) entity_cmp (name.now, shape.now) types.old types.new missing.old.items missing.new.items) }
+    ensures { OnOk result (Adds (λ e. missing_in (declares world.now) (kept_entry e).1) (λ e entry. DenotesEntry (declares world.now) (HasTypesBelow (Member (kin_of (kept_shapes world.now)))) (kept_entry e) entry) entity_cmp (name.now, shape.now) types.old types.new missing.old.items missing.new.items) }
 {
     if keep_undeclared(alloc, shape.parents.get(), world, missing)? {
         return Ok(());
@@ -112,7 +112,7 @@ fn misses_parent(alloc: Global, world: &World) -> Mem<bool>
 
 /// The entity types of a world, with their children as descendants; refused with what they refer to in vain.
 pub fn resolve_types(alloc: Global, world: &World) -> Out<Types, CedarSchemaError>
-    ensures types { IfOk result (λ types. AllZip (DenotesEntry (declares world.now) (Member (kin_of (kept_shapes world.now)))) (kept_shapes world.now) types) }
+    ensures types { IfOk result (λ types. AllZip (DenotesEntry (declares world.now) (HasTypesBelow (Member (kin_of (kept_shapes world.now))))) (kept_shapes world.now) types) }
     ensures defined { IfOk result (λ types. missing_of (declares world.now) (kept_shapes world.now) ≡ []) }
     ensures refused { IfRefused result (MissesTypes (declares world.now) (kept_shapes world.now)) }
 {

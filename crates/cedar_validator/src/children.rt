@@ -7,7 +7,7 @@ ghost use Rattle.cedar_text.specs.Words.{has_word};
 ghost use Rattle.cedar_validator.specs.Children.{children_at, is_child};
 
 use crate::world::DeclaredName;
-use cedar_data::{Dup, Items, Mem, Set, Text};
+use cedar_data::{Dup, Mem, Set, Text};
 use std::alloc::Global;
 use std::collections::BTreeMap;
 
@@ -44,7 +44,7 @@ fn add_child<C: Ord + Drop>(
 /// Puts a child under each of its parents.
 pub fn link<P: DeclaredName, C: Ord + Dup + Drop>(
     alloc: Global,
-    parents: &Items<P>,
+    parents: &Set<P>,
     child: &C,
     children: &mut Children<C>,
 ) -> Mem<()>

@@ -25,10 +25,10 @@ pub enum CedarSchemaError {
     NotBuilt,
     /// Two declarations have this name, the first in the text that stands a second time.
     DuplicateDeclarations { name: Text },
-    /// For each entity type in order, all its parents that aren't declared, or where there are none the first type
-    /// word of its shape that means nothing. `parent` tells whether the first of these words is a parent.
+    /// For each entity type in order, all its parents that aren't declared, in order, each once, or where there are none
+    /// the first type word of its shape that means nothing. `parent` tells whether the first of these words is a parent.
     TypeNotDefined { names: NonEmpty<Text>, parent: bool },
-    /// For each action in order, all its parents that aren't declared.
+    /// For each action in order, all its parents that aren't declared, in order, each once.
     ActionNotDefined { uids: NonEmpty<EntityUID> },
     /// This action descends from itself, and no lesser one does.
     CycleInActionHierarchy { uid: EntityUID },

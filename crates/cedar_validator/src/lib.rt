@@ -12,8 +12,10 @@ mod schema;
 mod schema_building;
 mod shapes;
 mod text;
+mod uniqueness;
 mod world;
 
 pub use action::ValidatorActionId;
 pub use errors::CedarSchemaError;
 pub use schema::{ActionIter, EntityIter, ValidatorEntityType, ValidatorSchema};
+pub use uniqueness::one_schema;

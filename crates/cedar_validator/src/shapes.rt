@@ -3,16 +3,18 @@ ghost use Rattle.std.specs.Prelude.{◌≡◌, ◌++◌, ◌||◌, false, true, 
 ghost use Rattle.std.specs.List.{list_any};
 ghost use Rattle.cedar_names.specs.Extensions.{extension_words};
 ghost use Rattle.cedar_names.specs.Identifiers.{id_word, id_words, unreserved_word};
+ghost use Rattle.cedar_names.specs.Order.{word_cmp};
 ghost use Rattle.cedar_text.specs.Failures.{IfRefused};
 ghost use Rattle.cedar_text.specs.Words.{has_word};
 ghost use Rattle.cedar_plain.specs.Plain.{Entities, Actions, type_tree, attribute_tree, decl_tree};
 ghost use Rattle.cedar_validator.specs.Declarations.{by_name, word_of, type_words, kept_names, is_unbuilt, entity_shapes, action_parents, shapes, actions};
+ghost use Rattle.cedar_validator.specs.Sets.{set_of};
 ghost use Rattle.cedar_validator.specs.Shapes.{attribute_trees, kept_shapes};
 ghost use Rattle.cedar_validator.specs.declared.errors.CedarSchemaError.TheVariants.{NotBuilt};
 
 use crate::errors::CedarSchemaError;
 use crate::world::{EntityShape, Parents};
-use cedar_data::{Dup, Failure, Items, Map, Mem, Out, Shared, Text};
+use cedar_data::{Dup, Failure, Items, Map, Mem, Out, Set, Shared, Text};
 use cedar_names::{Extensions, Id, UnreservedId};
 use cedar_plain::{PlainDecl, PlainType};
 use std::alloc::Global;
@@ -45,6 +47,25 @@ pub fn attributes_by_name(
     ensures { IfOk result (λ attributes. attribute_trees attributes ≡ by_name (attribute_trees written)) }
 {
     Map::from_pairs(alloc, written.into_vec())
+}
+
+/// The set of the keys.
+fn set_of<K: Ord + Drop>(alloc: Global, keys: Items<K>) -> Mem<Set<K>>
+    ensures { IfOk result (λ set. set ≡ set_of K.cmp keys) }
+{
+    let mut set = Set::new(alloc);
+    for key in keys.into_vec() {
+        set.insert(key)?;
+    }
+    Ok(set)
+}
+
+/// The parents of an entity type as a set.
+#[tactic(auto, using(crate::proofs::ShapesLemmas::shape_rules))]
+fn parent_types(alloc: Global, parents: Items<Id>) -> Mem<Set<Id>>
+    ensures { IfOk result (λ set. id_words set ≡ set_of word_cmp (id_words parents)) }
+{
+    set_of(alloc, parents)
 }
 
 /// Whether no entity type may have this name yet, whatever the extension types are.
@@ -99,6 +120,7 @@ fn keep_entities(
 {
     let attributes = attributes_by_name(alloc, attrs)?;
     let has_extension = has_extension_type(&attributes, extensions);
+    let parents = parent_types(alloc, parents)?;
     let parents = Shared::new(alloc, parents)?;
     let attributes = Shared::new(alloc, attributes)?;
     for name in names.into_vec() {
@@ -126,6 +148,7 @@ fn keep_actions(
 ) -> Mem<()>
     ensures { OnOk result (kept.new.items ≡ kept.old.items ++ action_parents (Actions names parents)) }
 {
+    let parents = set_of(alloc, parents)?;
     let parents = Shared::new(alloc, parents)?;
     for name in names.into_vec() {
         let parents = parents.dup(alloc)?;

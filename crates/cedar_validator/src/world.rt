@@ -7,22 +7,22 @@ ghost use Rattle.cedar_text.specs.Failures.{IfRefused};
 ghost use Rattle.cedar_validator.specs.Worlds.{Indexes, RepeatsName};
 
 use crate::errors::CedarSchemaError;
-use cedar_data::{Failure, Items, Map, Mem, Out, Shared, Text};
+use cedar_data::{Failure, Map, Mem, Out, Set, Shared, Text};
 use cedar_names::{Id, UnreservedId};
 use cedar_plain::PlainType;
 use std::alloc::Global;
 
-/// What is declared of an entity type: its parents in the order of the text, and its attributes by name.
+/// What is declared of an entity type: its parents as a set, and its attributes by name.
 #[derive(Drop)]
 pub struct EntityShape {
-    /// The entity types that it is a member of, in the order of the text.
-    pub parents: Shared<Items<Id>>,
+    /// The entity types that it is a member of.
+    pub parents: Shared<Set<Id>>,
     /// The last type that stands at each attribute.
     pub attributes: Shared<Map<Text, PlainType>>,
 }
 
-/// The parents of an action, in the order of the text.
-pub type Parents = Shared<Items<Text>>;
+/// The parents of an action.
+pub type Parents = Shared<Set<Text>>;
 
 /// The declared entity types.
 pub type World = Map<UnreservedId, EntityShape>;

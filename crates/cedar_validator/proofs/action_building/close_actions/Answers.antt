@@ -1,9 +1,9 @@
 -- SPDX-License-Identifier: Apache-2.0
 use Rattle.std.proofs.Common.{◌≡◌, sym, ◌∙◌, subst, refl, IsTrue, true, List}
 use Rattle.cedar_names.specs.declared.entity_uid.EntityUID.{EntityUID}
-use Rattle.cedar_types.specs.Closure.{IsLeastOnCycle}
-use Rattle.cedar_types.specs.declared.tc_error.TcError.{TcError}
-use Rattle.cedar_types.specs.declared.tc_error.TcError.TheVariants.{HasCycle}
+use Rattle.cedar_closure.specs.Closure.{IsLeastOnCycle}
+use Rattle.cedar_closure.specs.declared.tc_error.TcError.{TcError}
+use Rattle.cedar_closure.specs.declared.tc_error.TcError.TheVariants.{HasCycle}
 use Rattle.cedar_validator.specs.Schemas.{uid_cmp, action_descendants}
 use Rattle.cedar_validator.specs.declared.action.ValidatorActionId.{ValidatorActionId}
 use Rattle.cedar_validator.proofs.AddingTypes.{refused_at}

@@ -5,7 +5,7 @@ use Rattle.std.specs.List.{AllZip}
 use Rattle.cedar_names.specs.declared.entity_uid.EntityUID.{EntityUID}
 use Rattle.cedar_names.specs.declared.name.EntityType.{EntityType}
 use Rattle.cedar_validator.specs.Declarations.{kin_of}
-use Rattle.cedar_validator.specs.Denotes.{DenotesEntry, DenotesActionEntry}
+use Rattle.cedar_validator.specs.Denotes.{AreTypesBelow, AreActionsBelow, DenotesEntry, DenotesActionEntry}
 use Rattle.cedar_validator.specs.Descents.{Descends}
 use Rattle.cedar_validator.specs.Shapes.{kept_shapes, declares}
 use Rattle.cedar_validator.specs.declared.action.ValidatorActionId.{ValidatorActionId}
@@ -31,6 +31,6 @@ returns-clause-ok c =
       defined = c.in_ok-entity_types.ensures.defined;
       actions_defined = c.in_ok-action_ids.ensures.defined;
       acyclic = actions_acyclic kin c.in_ok-action_ids.action_ids c.in_ok-action_ids.ensures.actions c.in_ok-action_ids-2.ensures.acyclic;
-      types_are = subst (λ (es : List (EntityType × ValidatorEntityType)). AllZip (DenotesEntry (declares kept) (Descends (kin_of (kept_shapes kept)))) (kept_shapes kept) es) (sym c.from_parts.ensures.types) types;
-      actions_are = subst (λ (es : List (EntityUID × ValidatorActionId)). AllZip (DenotesActionEntry (Descends kin)) kin es) (sym c.from_parts.ensures.actions) actions;
+      types_are = subst (λ (es : List (EntityType × ValidatorEntityType)). AllZip (DenotesEntry (declares kept) (AreTypesBelow (Descends (kin_of (kept_shapes kept))))) (kept_shapes kept) es) (sym c.from_parts.ensures.types) types;
+      actions_are = subst (λ (es : List (EntityUID × ValidatorActionId)). AllZip (DenotesActionEntry (AreActionsBelow (Descends kin))) kin es) (sym c.from_parts.ensures.actions) actions;
     }

@@ -1,0 +1,7 @@
+-- SPDX-License-Identifier: Apache-2.0
+pub mod Sets
+pub mod Chains
+pub mod Marks
+pub mod Closure
+pub mod Places
+pub mod TcErrors

@@ -1,0 +1,188 @@
+// SPDX-License-Identifier: Apache-2.0
+ghost use Rattle.std.specs.Prelude.{◌≡◌, ◌<◌, ◌≤◌, ◌+◌, ◌↔◌, ◌⊎◌, [], ◌∷◌, false, length, replicate, IsTrue, IfOk, OnOk, All, Contains, IsSomeAnd};
+ghost use Rattle.std.specs.List.Sorted.{IsStrictlySortedBy};
+ghost use Rattle.std.specs.Map.{keys_of};
+ghost use Rattle.cedar_data.specs.Maps.{IsSortedMap};
+ghost use Rattle.cedar_data.specs.Sets.{contains};
+ghost use Rattle.cedar_text.specs.Failures.{IfRefused};
+ghost use Rattle.cedar_closure.specs.Closure.{IsClosure, IsAcyclic, IsLeastOnCycle};
+ghost use Rattle.cedar_closure.specs.Marks.{LeadWithin};
+ghost use Rattle.cedar_closure.specs.Places.{AreKeysOf, Chained, place, rows_at};
+ghost use Rattle.cedar_closure.specs.declared.tc_error.TcError.TheVariants.{HasCycle};
+
+use crate::key_graph::{keys_of_nodes, place, rows_of_nodes};
+use crate::reachable::reached_from;
+use crate::tc_error::TcError;
+use crate::tc_node::{TcKey, TcNode};
+use cedar_data::{Failure, Items, Map, Mem, Out};
+use std::alloc::Global;
+use std::collections::BTreeMap;
+
+/// The nodes, each with an edge to exactly those keys to which a chain of one or more edges led from its key. A node's
+/// key is its place in the map, and an edge may lead to a key where no node stands, and so no further. With
+/// `enforce_dag` it is refused where a key reaches itself, with the least that does. It takes memory for the edges, and
+/// the time of one search from each node.
+pub fn compute_tc<K: TcKey, V: TcNode<K>>(
+    alloc: Global,
+    nodes: BTreeMap<K, V>,
+    enforce_dag: bool,
+) -> Out<BTreeMap<K, V>, TcError<K>>
+    ensures closed { IfOk result (λ closed. IsClosure K.cmp V.key V.edges V.rest nodes.entries closed.entries) }
+    ensures acyclic { IfOk result (λ _. IsTrue enforce_dag → IsAcyclic K.cmp V.edges nodes.entries) }
+    ensures refused { IfRefused result (λ error. IsTrue enforce_dag ×
+        ((vertex : K) × (error ≡ HasCycle vertex) × IsLeastOnCycle K.cmp V.edges nodes.entries vertex)) }
+{
+    let nodes = Map::from_map(nodes);
+    let keys = keys_of_nodes(alloc, &nodes)?;
+    let rows = rows_of_nodes(alloc, &nodes, keys.as_slice())?;
+    let mut marks = vec![in alloc; 0usize; keys.len()]?;
+    let closed = close_nodes(
+        alloc,
+        nodes,
+        keys.as_slice(),
+        rows.as_slice(),
+        marks.as_mut_slice(),
+        enforce_dag,
+    )?;
+    Ok(closed.into_map())
+}
+
+/// Closes the edges of each node, in the order of their keys.
+fn close_nodes<K: TcKey, V: TcNode<K>>(
+    alloc: Global,
+    nodes: Map<K, V>,
+    keys: &[K],
+    rows: &[Items<usize>],
+    marks: &mut [usize],
+    enforce_dag: bool,
+) -> Out<Map<K, V>, TcError<K>>
+    requires keys { AreKeysOf K.cmp V.edges nodes keys.now }
+    requires rows { rows.now ≡ rows_at K.cmp V.edges nodes keys.now }
+    requires no_marks { marks.old ≡ replicate (length keys.now) 0 }
+    ensures closed { IfOk result (λ closed. IsClosure K.cmp V.key V.edges V.rest nodes closed) }
+    ensures acyclic { IfOk result (λ _. IsTrue enforce_dag → IsAcyclic K.cmp V.edges nodes) }
+    ensures refused { IfRefused result (λ error. IsTrue enforce_dag ×
+        ((vertex : K) × (error ≡ HasCycle vertex) × IsLeastOnCycle K.cmp V.edges nodes vertex)) }
+{
+    let mut closed = Vec::new(alloc);
+    for (key, mut node) in nodes.into_entries() {
+        let returns = close_any_edges(alloc, keys, rows, marks, &key, &mut node)?;
+        if returns && enforce_dag {
+            return Err(Failure::Refused(TcError::HasCycle { vertex: key }));
+        }
+        closed.push((key, node))?;
+    }
+    let closed_nodes = map_of_sorted(alloc, closed)?;
+    Ok(closed_nodes)
+}
+
+/// The map of entries that are in the order of their keys. From the greatest on, putting them in takes the fewest
+/// comparisons.
+fn map_of_sorted<K: Ord + Drop, V: Drop>(alloc: Global, mut entries: Vec<(K, V)>) -> Mem<Map<K, V>>
+    requires { IsSortedMap K.cmp entries.items }
+    ensures { IfOk result (λ map. map ≡ entries.items) }
+{
+    let mut map = Map::new(alloc);
+    while let Some((key, value)) = entries.pop() {
+        put_first(&mut map, key, value)?;
+    }
+    Ok(map)
+}
+
+/// Puts an entry before all others.
+fn put_first<K: Ord + Drop, V: Drop>(map: &mut Map<K, V>, key: K, value: V) -> Mem<()>
+    requires { IsStrictlySortedBy K.cmp (key ∷ keys_of map.old) }
+    ensures { OnOk result (map.new ≡ (key, value) ∷ map.old) }
+{
+    map.put(key, value)
+}
+
+/// Whether an edge leads from the node.
+fn has_edge<K: TcKey, V: TcNode<K>>(node: &V) -> bool
+    ensures { (result ≡ false) → (V.edges node.now ≡ []) }
+{
+    node.out_edges().next().is_some()
+}
+
+/// Adds an edge to each key to which a chain of rows leads from `key`, and answers whether one leads back to it. From a
+/// node without edges none does, so that such a node takes no search.
+fn close_any_edges<K: TcKey, V: TcNode<K>>(
+    alloc: Global,
+    keys: &[K],
+    rows: &[Items<usize>],
+    marks: &mut [usize],
+    key: &K,
+    node: &mut V,
+) -> Mem<bool>
+    requires ordered { IsStrictlySortedBy K.cmp keys.now }
+    requires within { LeadWithin rows.now }
+    requires one_each { (length rows.now ≡ length keys.now) × (length marks.old ≡ length rows.now) }
+    requires ascends { IsStrictlySortedBy K.cmp (V.edges node.old) }
+    requires begun { (V.edges node.old ≡ []) → (to : K) → Chained K.cmp keys.now rows.now key.now to → ⊥ }
+    requires earlier { IsSomeAnd (place K.cmp keys.now key.now) (λ at. All (λ mark. mark ≤ at) marks.old) }
+    ensures leads { OnOk result ((to : K) → IsTrue (contains K.cmp (V.edges node.new) to)
+        ↔ (IsTrue (contains K.cmp (V.edges node.old) to) ⊎ Chained K.cmp keys.now rows.now key.now to)) }
+    ensures ascends { OnOk result (IsStrictlySortedBy K.cmp (V.edges node.new)) }
+    ensures same_key { OnOk result (V.key node.new ≡ V.key node.old) }
+    ensures same_rest { OnOk result (V.rest node.new ≡ V.rest node.old) }
+    ensures returns { IfOk result (λ returns. IsTrue returns ↔ Chained K.cmp keys.now rows.now key.now key.now) }
+    ensures latest { OnOk result (IsSomeAnd (place K.cmp keys.now key.now) (λ at. All (λ mark. mark ≤ at + 1) marks.new)) }
+{
+    if has_edge(node) {
+        return close_node(alloc, keys, rows, marks, key, node);
+    }
+    Ok(false)
+}
+
+/// Adds an edge to each key to which a chain of rows leads from `key`, and answers whether one leads back to it.
+fn close_node<K: TcKey, V: TcNode<K>>(
+    alloc: Global,
+    keys: &[K],
+    rows: &[Items<usize>],
+    marks: &mut [usize],
+    key: &K,
+    node: &mut V,
+) -> Mem<bool>
+    requires ordered { IsStrictlySortedBy K.cmp keys.now }
+    requires within { LeadWithin rows.now }
+    requires one_each { (length rows.now ≡ length keys.now) × (length marks.old ≡ length rows.now) }
+    requires ascends { IsStrictlySortedBy K.cmp (V.edges node.old) }
+    requires earlier { IsSomeAnd (place K.cmp keys.now key.now) (λ at. All (λ mark. mark ≤ at) marks.old) }
+    ensures leads { OnOk result ((to : K) → IsTrue (contains K.cmp (V.edges node.new) to)
+        ↔ (IsTrue (contains K.cmp (V.edges node.old) to) ⊎ Chained K.cmp keys.now rows.now key.now to)) }
+    ensures ascends { OnOk result (IsStrictlySortedBy K.cmp (V.edges node.new)) }
+    ensures same_key { OnOk result (V.key node.new ≡ V.key node.old) }
+    ensures same_rest { OnOk result (V.rest node.new ≡ V.rest node.old) }
+    ensures returns { IfOk result (λ returns. IsTrue returns ↔ Chained K.cmp keys.now rows.now key.now key.now) }
+    ensures latest { OnOk result (IsSomeAnd (place K.cmp keys.now key.now) (λ at. All (λ mark. mark ≤ at + 1) marks.new)) }
+{
+    let Some(at) = place(keys, key) else {
+        unreachable!()
+    };
+    let found = reached_from(alloc, rows, at, marks)?;
+    add_edges_to(alloc, keys, found.as_slice(), node)?;
+    Ok(found.contains(&at))
+}
+
+/// Adds an edge to each key whose position was found.
+fn add_edges_to<K: TcKey, V: TcNode<K>>(
+    alloc: Global,
+    keys: &[K],
+    found: &[usize],
+    node: &mut V,
+) -> Mem<()>
+    requires ordered { IsStrictlySortedBy K.cmp keys.now }
+    requires within { All (λ at. at < length keys.now) found.now }
+    requires ascends { IsStrictlySortedBy K.cmp (V.edges node.old) }
+    ensures leads { OnOk result ((to : K) → IsTrue (contains K.cmp (V.edges node.new) to)
+        ↔ (IsTrue (contains K.cmp (V.edges node.old) to) ⊎ IsSomeAnd (place K.cmp keys.now to) (Contains found.now))) }
+    ensures ascends { OnOk result (IsStrictlySortedBy K.cmp (V.edges node.new)) }
+    ensures same_key { OnOk result (V.key node.new ≡ V.key node.old) }
+    ensures same_rest { OnOk result (V.rest node.new ≡ V.rest node.old) }
+{
+    for at in found {
+        let key = keys[*at].dup(alloc)?;
+        node.add_edge_to(key)?;
+    }
+    Ok(())
+}

@@ -1,0 +1,171 @@
+// SPDX-License-Identifier: Apache-2.0
+ghost use Rattle.std.specs.Prelude.{◌≡◌, ◌∷◌, ◌++◌, [], All, IfOk, OnOk};
+ghost use Rattle.std.specs.List.{filter_map};
+ghost use Rattle.std.specs.List.Sorted.{IsStrictlySortedBy};
+ghost use Rattle.std.specs.Map.{keys_of};
+ghost use Rattle.cedar_data.specs.Sets.{Adds};
+ghost use Rattle.cedar_closure.specs.Places.{PutsInOrder, AddsBeside, NamesBeside, AreKeysOf, place, row_at, rows_at};
+
+use crate::tc_node::{TcKey, TcNode};
+use cedar_data::{Items, Map, Mem, Set};
+use std::alloc::Global;
+use std::collections::BTreeSet;
+
+/// The keys of the nodes and of their edges, each once, in their order. Those of the nodes are in order already, so
+/// only keys where no node stands are searched for.
+pub(crate) fn keys_of_nodes<K: TcKey, V: TcNode<K>>(alloc: Global, nodes: &Map<K, V>) -> Mem<Vec<K>>
+    ensures { IfOk result (λ keys. AreKeysOf K.cmp V.edges nodes.now keys.items) }
+{
+    let others = other_targets(alloc, nodes)?;
+    let mut keys = copies_of_keys(alloc, nodes)?;
+    push_copies(alloc, &others, &mut keys)?;
+    in_order(alloc, keys)
+}
+
+/// The keys to which edges lead, and at which no node stands.
+fn other_targets<K: TcKey, V: TcNode<K>>(alloc: Global, nodes: &Map<K, V>) -> Mem<Set<K>>
+    ensures beside { IfOk result (λ others. NamesBeside K.cmp V.edges nodes.now others) }
+    ensures edges_ordered { OnOk result (All (λ entry. IsStrictlySortedBy K.cmp (V.edges entry.1)) nodes.now) }
+{
+    let mut others = Set::new(alloc);
+    for (_, node) in nodes.iter() {
+        add_other_targets(alloc, nodes, node, &mut others)?;
+    }
+    Ok(others)
+}
+
+/// Puts copies of the keys to which the edges of the node lead into the set, but for those of nodes.
+fn add_other_targets<K: TcKey, V: TcNode<K>>(
+    alloc: Global,
+    nodes: &Map<K, V>,
+    node: &V,
+    others: &mut Set<K>,
+) -> Mem<()>
+    ensures adds { OnOk result (AddsBeside K.cmp (keys_of nodes.now) others.old others.new (V.edges node.now)) }
+    ensures ordered { IsStrictlySortedBy K.cmp (V.edges node.now) }
+{
+    for key in node.out_edges() {
+        add_other_target(alloc, nodes, key, others)?;
+    }
+    Ok(())
+}
+
+/// Puts a copy of the key into the set, if no node stands at it and no equal key is there.
+#[tactic(auto, using(crate::proofs::Naming::beside_rules))]
+fn add_other_target<K: TcKey, V: TcNode<K>>(
+    alloc: Global,
+    nodes: &Map<K, V>,
+    key: &K,
+    others: &mut Set<K>,
+) -> Mem<()>
+    ensures { OnOk result (AddsBeside K.cmp (keys_of nodes.now) others.old others.new (key.now ∷ [])) }
+{
+    if !nodes.contains_key(key) {
+        add_key(alloc, others, key)?;
+    }
+    Ok(())
+}
+
+/// Puts a copy of the key into the set, if no equal key is there.
+fn add_key<K: TcKey>(alloc: Global, set: &mut Set<K>, key: &K) -> Mem<()>
+    ensures { OnOk result (Adds K.cmp set.old set.new key.now) }
+{
+    if !set.contains(key) {
+        let copy = key.dup(alloc)?;
+        set.insert(copy)?;
+    }
+    Ok(())
+}
+
+/// Copies of the keys of the nodes, in their order.
+fn copies_of_keys<K: TcKey, V: TcNode<K>>(alloc: Global, nodes: &Map<K, V>) -> Mem<Vec<K>>
+    ensures { IfOk result (λ keys. keys.items ≡ keys_of nodes.now) }
+{
+    let mut keys = Vec::new(alloc);
+    for (key, _) in nodes.iter() {
+        let copy = key.dup(alloc)?;
+        keys.push(copy)?;
+    }
+    Ok(keys)
+}
+
+/// Puts copies of the keys of the set behind the keys.
+fn push_copies<K: TcKey>(alloc: Global, set: &Set<K>, keys: &mut Vec<K>) -> Mem<()>
+    ensures { OnOk result (keys.new.items ≡ keys.old.items ++ set.now) }
+{
+    for key in set.iter() {
+        let copy = key.dup(alloc)?;
+        keys.push(copy)?;
+    }
+    Ok(())
+}
+
+/// The keys, each once, in their order.
+fn in_order<K: Ord + Drop>(alloc: Global, keys: Vec<K>) -> Mem<Vec<K>>
+    ensures { IfOk result (λ sorted. PutsInOrder K.cmp keys.items sorted.items) }
+{
+    let set: BTreeSet<K> = BTreeSet::from_iter(alloc, keys)?;
+    let mut sorted = Vec::new(alloc);
+    for key in set {
+        sorted.push(key)?;
+    }
+    Ok(sorted)
+}
+
+/// The position of the key among keys in order.
+pub(crate) fn place<K: Ord>(keys: &[K], key: &K) -> Option<usize>
+    requires { IsStrictlySortedBy K.cmp keys.now }
+    ensures { result ≡ place K.cmp keys.now key.now }
+{
+    match keys.binary_search(key) {
+        Ok(at) => Some(at),
+        Err(_) => None,
+    }
+}
+
+/// For each key in order, the positions to which the edges of its node lead.
+pub(crate) fn rows_of_nodes<K: TcKey, V: TcNode<K>>(
+    alloc: Global,
+    nodes: &Map<K, V>,
+    keys: &[K],
+) -> Mem<Vec<Items<usize>>>
+    requires { IsStrictlySortedBy K.cmp keys.now }
+    ensures { IfOk result (λ rows. rows.items ≡ rows_at K.cmp V.edges nodes.now keys.now) }
+{
+    let mut rows = Vec::new(alloc);
+    for key in keys {
+        let row = row_at_key(alloc, nodes, keys, key)?;
+        rows.push(row)?;
+    }
+    Ok(rows)
+}
+
+/// The positions to which the edges of the node at the key lead: none where no node stands.
+fn row_at_key<K: TcKey, V: TcNode<K>>(
+    alloc: Global,
+    nodes: &Map<K, V>,
+    keys: &[K],
+    key: &K,
+) -> Mem<Items<usize>>
+    requires { IsStrictlySortedBy K.cmp keys.now }
+    ensures { IfOk result (λ row. row ≡ row_at K.cmp V.edges nodes.now keys.now key.now) }
+{
+    match nodes.get(key) {
+        Some(node) => row_of_node(alloc, node, keys),
+        None => Ok(Items::new(alloc)),
+    }
+}
+
+/// The positions to which the edges of the node lead.
+fn row_of_node<K: TcKey, V: TcNode<K>>(alloc: Global, node: &V, keys: &[K]) -> Mem<Items<usize>>
+    requires { IsStrictlySortedBy K.cmp keys.now }
+    ensures { IfOk result (λ row. row ≡ filter_map (place K.cmp keys.now) (V.edges node.now)) }
+{
+    let mut row = Items::new(alloc);
+    for edge in node.out_edges() {
+        if let Some(at) = place(keys, edge) {
+            row.push(at)?;
+        }
+    }
+    Ok(row)
+}

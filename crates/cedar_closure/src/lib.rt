@@ -1,0 +1,13 @@
+// SPDX-License-Identifier: Apache-2.0
+//! The transitive closure of the edges between nodes with keys.
+#![tactic(auto)]
+
+mod closure;
+mod key_graph;
+mod reachable;
+mod tc_error;
+mod tc_node;
+
+pub use closure::compute_tc;
+pub use tc_error::TcError;
+pub use tc_node::{TcKey, TcNode};

@@ -1,0 +1,52 @@
+// SPDX-License-Identifier: Apache-2.0
+ghost use Rattle.std.specs.Prelude.{◌≡◌, ℕ, ◌+◌, ◌<◌, ◌≤◌, ◌↔◌, length, All, Contains, IfOk, OnOk};
+ghost use Rattle.cedar_closure.specs.Chains.{Reaches};
+ghost use Rattle.cedar_closure.specs.Marks.{Leads, LeadWithin, Told, Visited};
+
+use cedar_data::{Items, Mem};
+use std::alloc::Global;
+
+/// The positions to which a chain of one or more rows leads from `start`, each once. The mark of this search is
+/// `start + 1`, which has to be above all marks: so none has to be cleared between searches whose starts rise.
+pub(crate) fn reached_from(
+    alloc: Global,
+    rows: &[Items<usize>],
+    start: usize,
+    marks: &mut [usize],
+) -> Mem<Vec<usize>>
+    requires within { LeadWithin rows.now }
+    requires start { start < length rows.now }
+    requires one_each { length marks.old ≡ length rows.now }
+    requires earlier { All (λ mark. mark ≤ start) marks.old }
+    ensures reached { IfOk result (λ found. (j : ℕ) → Contains found.items j ↔ Reaches (Leads rows.now) start j) }
+    ensures within { IfOk result (λ found. All (λ j. j < length rows.now) found.items) }
+    ensures latest { OnOk result (All (λ mark. mark ≤ start + 1) marks.new) }
+{
+    let stamp = start + 1;
+    let mut found = Vec::new(alloc);
+    visit(rows[start].as_slice(), stamp, marks, &mut found)?;
+    let mut next = 0;
+    while next < found.len() {
+        let at = found[next];
+        visit(rows[at].as_slice(), stamp, marks, &mut found)?;
+        next += 1;
+    }
+    // From the greatest on, putting their keys into a set takes the fewest comparisons.
+    found.sort_unstable_by(|a, b| b.cmp(a));
+    Ok(found)
+}
+
+/// Puts the positions of the row that have no mark of this search behind the found ones, and marks them.
+fn visit(row: &[usize], stamp: usize, marks: &mut [usize], found: &mut Vec<usize>) -> Mem<()>
+    requires within { All (λ j. j < length marks.old) row.now }
+    requires told { Told stamp marks.old found.old.items }
+    ensures { OnOk result (Visited stamp row.now marks.old found.old.items marks.new found.new.items) }
+{
+    for position in row {
+        if marks[*position] != stamp {
+            marks[*position] = stamp;
+            found.push(*position)?;
+        }
+    }
+    Ok(())
+}

@@ -1,7 +1,0 @@
--- SPDX-License-Identifier: Apache-2.0
-use Rattle.std.proofs.Common.{refl}
-use Rattle.cedar_types.proofs.Naming.{AddsSome-next}
-use Rattle.cedar_types.proofs.key_graph.add_edges.Goals as goal
-
-pub loop-key-preserved : goal.loop-key-preserved
-loop-key-preserved g c = AddsSome-next g.met.K.Ord.total c.loop-key.invariant c.in-Some.ensures.steps refl c.in_ok-add_key.ensures

@@ -1,7 +1,0 @@
--- SPDX-License-Identifier: Apache-2.0
-use Rattle.cedar_types.proofs.Naming.{AddsSome}
-use Rattle.cedar_types.proofs.key_graph.add_edges.Given as goal
-
--- the edges so far were put in
-abbrev pub invariant-loop-key : goal.invariant-loop-key
-invariant-loop-key g l = AddsSome g.K.Ord.cmp (g.V.TcNode.edges l.node) l.key-iterator l.fn.set l.set

@@ -1,7 +1,0 @@
--- SPDX-License-Identifier: Apache-2.0
-use Rattle.std.proofs.Common.{◌≡◌, ◌++◌}
-use Rattle.cedar_types.proofs.key_graph.copies.Given as goal
-
--- the copies so far are the first keys
-abbrev pub invariant-loop-key : goal.invariant-loop-key
-invariant-loop-key g l = l.keys.items ++ l.key-iterator ≡ l.set
