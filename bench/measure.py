@@ -1,5 +1,10 @@
 # SPDX-License-Identifier: Apache-2.0
-"""What the timings share: the program, a text in a file, and the best of three runs on it."""
+"""What the timings share: the programs, a text in a file, the best of three runs on it, and rows of a table.
+
+The environment variable JOISTGINGER_PEER may name another program that resolves a
+schema from standard input at the word `resolve`, such as one over the Rust crate. Each
+row then has its processor seconds on the same text, and the ratio of the first to these.
+"""
 import contextlib
 import os
 import subprocess
@@ -8,6 +13,8 @@ import tempfile
 
 TOP = os.path.dirname(os.path.dirname(os.path.abspath(__file__)))
 LIMIT = 4194304
+PEER = os.environ.get("JOISTGINGER_PEER")
+PEER_COLUMNS = ["the crate's seconds", "ratio"] if PEER else []
 
 
 def program_to_time():
@@ -44,6 +51,18 @@ def best_of_three(program, path, statuses=(0,)):
     return min(row[0] for row in rows), max(row[1] for row in rows)
 
 
+def against_peer(seconds, path, statuses=(0,)):
+    """The peer's processor seconds on the same text and the ratio to them, where there is a peer."""
+    if not PEER:
+        return []
+    theirs, _ = best_of_three(PEER, path, statuses)
+    return [f"{theirs:.3f}", f"{seconds / theirs:.2f}"]
+
+
 def print_head(*columns):
-    print("| " + " | ".join(columns) + " |")
+    print_row(*columns)
     print("|---" * len(columns) + "|")
+
+
+def print_row(*cells):
+    print("| " + " | ".join(str(cell) for cell in cells) + " |", flush=True)

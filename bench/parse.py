@@ -8,10 +8,11 @@ PROGRAM is a built program; without it, the one that the script `joistginger` at
 the top builds. Each form is made twice, of about 400 KiB and of at most 4 MiB;
 each row is the best of three runs of `resolve`. A form that isn't resolved yet
 is refused as soon as the text is parsed, so that its time is that of reading the
-text, its tokens and its tree. The last column says how much a byte of the long
-text costs, a byte of the short one being 1.
+text, its tokens and its tree. The cost of a byte is that of the long text, a byte of
+the short one being 1. Where JOISTGINGER_PEER names another program, each row has its
+time on the long text too, which is that of resolving it as well.
 """
-from measure import LIMIT, best_of_three, print_head, program_to_time, written
+from measure import LIMIT, PEER_COLUMNS, against_peer, best_of_three, print_head, print_row, program_to_time, written
 
 
 def repeated(piece, size):
@@ -72,22 +73,28 @@ FORMS = [("every form", every_form), ("comments", comments), ("one type, many at
          ("one declaration, many annotations", annotated), ("a stray last token", stray)]
 
 
+# A form that isn't resolved yet is refused, which is no fault here.
+STATUSES = (0, 1)
+
+
 def measured(program, text):
-    """The best of three runs; a form that isn't resolved yet is refused, which is no fault here."""
+    """The best of three runs, and the peer's, where there is one."""
     with written(text) as path:
-        return best_of_three(program, path, statuses=(0, 1))
+        seconds, memory = best_of_three(program, path, STATUSES)
+        return seconds, memory, against_peer(seconds, path, STATUSES)
 
 
 def main():
     program = program_to_time()
     print_head("text", "bytes", "seconds (processor)", "peak MB",
-               "bytes", "seconds (processor)", "peak MB", "cost of a byte")
+               "bytes", "seconds (processor)", "peak MB", "cost of a byte", *PEER_COLUMNS)
     for name, form in FORMS:
         short, long = form(LIMIT // 10), form(LIMIT)
-        little, small = measured(program, short)
-        much, large = measured(program, long)
+        little, small, _ = measured(program, short)
+        much, large, peer = measured(program, long)
         each = (much / len(long)) / (little / len(short))
-        print(f"| {name} | {len(short)} | {little:.3f} | {small:.0f} | {len(long)} | {much:.3f} | {large:.0f} | {each:.2f} |")
+        print_row(name, len(short), f"{little:.3f}", f"{small:.0f}", len(long), f"{much:.3f}", f"{large:.0f}",
+                  f"{each:.2f}", *peer)
 
 
 if __name__ == "__main__":

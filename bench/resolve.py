@@ -1,17 +1,19 @@
 #!/usr/bin/env python3
 # SPDX-License-Identifier: Apache-2.0
-"""Times `resolve` on entity declarations, and prints two tables.
+"""Times `resolve` on entity declarations, and prints four tables.
 
     bench/resolve.py [PROGRAM]
 
 PROGRAM is a built program; without it, the one that the script `joistginger` at
 the top builds. Each row is the best of three runs. The first table has declarations
 of five attributes, by their number; the second has memberships, by the number of
-pairs of a type and one that descends from it, which the listing writes.
+pairs of a type and one that descends from it, which the listing writes; the third
+says what 20,000 memberships in one type cost; the fourth has the texts that want the
+most memory. Where JOISTGINGER_PEER names another program, each row has its time too.
 """
 import subprocess
 
-from measure import LIMIT, best_of_three, print_head, program_to_time, written
+from measure import LIMIT, PEER_COLUMNS, against_peer, best_of_three, print_head, print_row, program_to_time, written
 
 
 def declaration(i, n):
@@ -57,6 +59,22 @@ def cycle(n):
     return members([(f"E{i}", f"E{(i + 1) % n}") for i in range(n)])
 
 
+def many(piece):
+    """As many numbered pieces of one length as fit in the program's limit."""
+    return "".join(piece(i) for i in range(LIMIT // len(piece(0))))
+
+
+def equal_parents():
+    """An entity type with the same parent again and again, up to the program's limit."""
+    head, tail = "entity B; entity A in [B", "];"
+    return head + ",B" * ((LIMIT - len(head) - len(tail)) // 2) + tail
+
+
+def undefined(n):
+    """Entity types of one attribute, whose type is declared nowhere."""
+    return "".join(f"entity E{i}{{a:U{i}}};" for i in range(n))
+
+
 def closure_size(program, path):
     """How many descendants the listing has."""
     with open(path, "rb") as source:
@@ -72,11 +90,12 @@ def closure_size(program, path):
 def print_declarations(program):
     cases = [(n, schema(n)) for n in (1000, 10000)]
     cases.append(full_schema())
-    print_head("declarations", "bytes", "seconds (processor)", "peak MB", "us per declaration")
+    print_head("declarations", "bytes", "seconds (processor)", "peak MB", "us per declaration", *PEER_COLUMNS)
     for n, text in cases:
         with written(text) as path:
             seconds, memory = best_of_three(program, path)
-        print(f"| {n} | {len(text)} | {seconds:.3f} | {memory:.0f} | {1e6 * seconds / n:.2f} |")
+            peer = against_peer(seconds, path)
+        print_row(n, len(text), f"{seconds:.3f}", f"{memory:.0f}", f"{1e6 * seconds / n:.2f}", *peer)
 
 
 def print_memberships(program):
@@ -84,20 +103,48 @@ def print_memberships(program):
              ("a binary tree of 20,000", tree(20000)),
              ("a chain of 2,000", chain(2000)),
              ("a cycle of 2,000", cycle(2000))]
-    print_head("entity types", "pairs of the closure", "seconds (processor)", "peak MB", "us per type and pair")
+    print_head("entity types", "pairs of the closure", "seconds (processor)", "peak MB", "us per type and pair",
+               *PEER_COLUMNS)
     for name, text in cases:
         with written(text) as path:
             size = closure_size(program, path)
             seconds, memory = best_of_three(program, path)
+            peer = against_peer(seconds, path)
         each = 1e6 * seconds / (size + text.count("\n"))
-        print(f"| {name} | {size} | {seconds:.3f} | {memory:.0f} | {each:.2f} |")
+        print_row(name, size, f"{seconds:.3f}", f"{memory:.0f}", f"{each:.2f}", *peer)
+
+
+def print_flat(program):
+    """What memberships cost: 20,000 types in one, and the same types in none."""
+    cases = [("20,000 in none", members([("G", None)] + [(f"M{i}", None) for i in range(20000)])),
+             ("20,000 in one", groups(1, 20000))]
+    print_head("entity types", "seconds (processor)", "peak MB", "cost of those in none", *PEER_COLUMNS)
+    least = None
+    for name, text in cases:
+        with written(text) as path:
+            seconds, memory = best_of_three(program, path)
+            peer = against_peer(seconds, path)
+        least = least or seconds
+        print_row(name, f"{seconds:.3f}", f"{memory:.0f}", f"{seconds / least:.2f}", *peer)
+
+
+def print_large(program):
+    cases = [("distinct entity types without anything", many(lambda i: f"entity E{i:06};"), 0),
+             ("an entity type with two million equal parents", equal_parents(), 0),
+             ("150,000 entity types, each with an undefined type", undefined(150000), 1)]
+    print_head("text", "bytes", "seconds (processor)", "peak MB", *PEER_COLUMNS)
+    for name, text, status in cases:
+        with written(text) as path:
+            seconds, memory = best_of_three(program, path, (status,))
+            peer = against_peer(seconds, path, (status,))
+        print_row(name, len(text), f"{seconds:.3f}", f"{memory:.0f}", *peer)
 
 
 def main():
     program = program_to_time()
-    print_declarations(program)
-    print()
-    print_memberships(program)
+    for print_table in (print_declarations, print_memberships, print_flat, print_large):
+        print_table(program)
+        print()
 
 
 if __name__ == "__main__":

@@ -1,16 +1,17 @@
 -- SPDX-License-Identifier: Apache-2.0
 -- From what was read and how it was answered to what the run did.
-use Rattle.std.proofs.Common.{◌≡◌, ℕ, ◌<◌, Bool, List, [], length, Option, Some, IfSome, inl, inr, refl, ap, sym, ◌∙◌, subst, arith, IsUtf8}
+use Rattle.std.proofs.Common.{◌≡◌, ℕ, ◌<◌, Bool, List, length, inl, inr, refl, ap, sym, ◌∙◌, subst, arith, IsUtf8}
 use Rattle.cedar_names.specs.Extensions.{extension_words}
 use Rattle.cedar_text.specs.Words.{has_word}
 use Rattle.cedar_names.specs.declared.extensions.Extensions.{Extensions}
 use Rattle.cedar_validator.specs.WellFormed.{IsWellFormed, Cause}
 use Rattle.cedar_validator.specs.declared.errors.CedarSchemaError.{CedarSchemaError}
 use Rattle.cedar_validator.specs.declared.schema.ValidatorSchema.{ValidatorSchema}
+use Rattle.cedar_streams.proofs.Known.{GivesAll-is, GivesMoreThan-had}
 use Rattle.cedar_schema_tool.specs.Answering.{Sunk, Lists, Rejects, IsSchemaOf, AnswersText, AnswersBytes, AcceptsText}
 use Rattle.cedar_schema_tool.specs.Asking.{AskFor}
 use Rattle.cedar_schema_tool.specs.CommandLine.{Asks}
-use Rattle.cedar_schema_tool.specs.Running.{Streams, Reads, Runs, Accepts, Refuses, AreAsking, AcceptsWellFormed, IsAcceptance, longest_text}
+use Rattle.cedar_schema_tool.specs.Running.{Streams, Reads, ReadTooMuch, Runs, Accepts, Refuses, AreAsking, AcceptsWellFormed, IsAcceptance, longest_text}
 use Rattle.cedar_schema_tool.specs.declared.status.Status.{Status}
 use Rattle.cedar_schema_tool.specs.declared.status.Status.TheVariants.{Done, Refused, Usage, ReadFault, WriteFault, NotUtf8, TooLong, NoMemory}
 use Rattle.cedar_schema_tool.proofs.Asking.{Asks-one}
@@ -111,15 +112,15 @@ module _ (words : List (List ℕ)) (x : Extensions) (found : AskFor (Asks words)
 
     pub answers-accepts : (status : Status) → AcceptsText bytes (has_word (extension_words x)) status → AcceptsWellFormed words before status
     answers-accepts status a names input ds asks left within utf8 formed =
-        let whole : (bytes ≡ input) × (after.left ≡ Some []) = subst (λ (o : Option (List ℕ)). IfSome o (λ i. (bytes ≡ i) × (after.left ≡ Some []))) left reads.whole in
+        let same : bytes ≡ input = GivesAll-is longest_text bytes input left reads.all in
         let test : has_word names ≡ has_word (extension_words x) = ap has_word (Asks-one words names found.0 asks found.1) ∙ sym same_test in
-        a (subst IsUtf8 (sym whole.0) utf8) ds
-        (subst (λ (f : List ℕ → Bool). IsWellFormed bytes f ds) test (subst (λ (t : List ℕ). IsWellFormed t (has_word names) ds) (sym whole.0) formed))
+        a (subst IsUtf8 (sym same) utf8) ds
+        (subst (λ (f : List ℕ → Bool). IsWellFormed bytes f ds) test (subst (λ (t : List ℕ). IsWellFormed t (has_word names) ds) (sym same) formed))
 
 -- the words ask for nothing, and no status of theirs counts as an acceptance
 pub usage-accepts : (words : List (List ℕ)) (before : Streams) (status : Status) → ((names : List (List ℕ)) → Asks words names → ⊥) → AcceptsWellFormed words before status
 usage-accepts words before status none names input ds asks left within utf8 formed = absurd (none names asks)
 
-pub too_long-accepts : (words : List (List ℕ)) (before : Streams) (status : Status) → IfSome before.left (λ input. longest_text < length input) → AcceptsWellFormed words before status
-too_long-accepts words before status long names input ds asks left within utf8 formed =
-    let longer : longest_text < length input = subst (λ (o : Option (List ℕ)). IfSome o (λ i. longest_text < length i)) left long in absurd (omega arith)
+pub too_long-accepts : (words : List (List ℕ)) (before after : Streams) (status : Status) → ReadTooMuch before after → AcceptsWellFormed words before status
+too_long-accepts words before after status much names input ds asks left within utf8 formed =
+    let longer : longest_text < length input = GivesMoreThan-had longest_text input left much.0 in absurd (omega arith)

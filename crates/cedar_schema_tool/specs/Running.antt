@@ -1,8 +1,8 @@
 -- SPDX-License-Identifier: Apache-2.0
 -- What a run of the program did, by its status.
-use Rattle.std.specs.Prelude.{◌≡◌, ◌⊎◌, ◌≤◌, ◌<◌, ℕ, List, [], length, Option, Some, IfSome, IsUtf8}
+use Rattle.std.specs.Prelude.{◌≡◌, ◌⊎◌, ◌≤◌, ℕ, List, length, Option, Some, IsUtf8}
 use Rattle.cedar_text.specs.Words.{has_word}
-use Rattle.cedar_streams.specs.Bytes.{Takes, TakesFront}
+use Rattle.cedar_streams.specs.Bytes.{GivesAll, GivesAtMost, GivesMoreThan, Takes, TakesFront}
 use Rattle.cedar_streams.specs.Faults.{Rose}
 use Rattle.cedar_plain.specs.Plain.{DeclTree}
 use Rattle.cedar_validator.specs.Denotes.{Denotes}
@@ -36,10 +36,18 @@ SameOut before after = (after.out ≡ before.out) × (after.out_faults ≡ befor
 abbrev pub SameErr : Streams → Streams → Type 0
 SameErr before after = (after.err ≡ before.err) × (after.err_faults ≡ before.err_faults)
 
--- all that the source had left was read, and it was this text
+-- all that the source had left was read, it was this text, and no read failed
 pub record Reads (before after : Streams) (text : List ℕ) : Type 0 where
-  pub whole : IfSome before.left (λ input. (text ≡ input) × (after.left ≡ Some []))
-  pub within : length text ≤ longest_text
+  pub all : GivesAll longest_text before.left after.left text
+  pub calm : after.read_faults ≡ before.read_faults
+
+-- the source failed, and before that gave no more bytes than a text may have
+abbrev pub FailedReading : Streams → Streams → Type 0
+FailedReading before after = GivesAtMost longest_text before.left after.left × Rose before.read_faults after.read_faults
+
+-- the source gave more bytes than a text may have, and had not failed before
+abbrev pub ReadTooMuch : Streams → Streams → Type 0
+ReadTooMuch before after = GivesMoreThan longest_text before.left after.left × (after.read_faults ≡ before.read_faults)
 
 -- the text that was read is well formed and denotes this schema
 pub record Accepts (words : List (List ℕ)) (before after : Streams) (schema : ValidatorSchema) : Type 0 where
@@ -69,10 +77,10 @@ AreAsking words = (names : List (List ℕ)) × Asks words names
 abbrev pub Runs : List (List ℕ) → Streams → Streams → Status → Type 0
 -- the words ask for nothing, and nothing was read or written
 Runs words before after Usage = (AreAsking words → ⊥) × (after ≡ before)
--- the source failed
-Runs words before after ReadFault = AreAsking words × Rose before.read_faults after.read_faults × SameOut before after × SameErr before after
--- the source had more bytes than a text may have
-Runs words before after TooLong = AreAsking words × IfSome before.left (λ input. longest_text < length input) × SameOut before after × SameErr before after
+-- reading failed
+Runs words before after ReadFault = AreAsking words × FailedReading before after × SameOut before after × SameErr before after
+-- too much was read
+Runs words before after TooLong = AreAsking words × ReadTooMuch before after × SameOut before after × SameErr before after
 -- the bytes that were read are no UTF-8
 Runs words before after NotUtf8 = AreAsking words × (bytes : List ℕ) × Reads before after bytes × (IsUtf8 bytes → ⊥) × SameOut before after × SameErr before after
 -- want of memory

@@ -1,5 +1,8 @@
 // SPDX-License-Identifier: Apache-2.0
 
+use cedar_data::{Dup, Mem};
+use std::alloc::Global;
+
 /// How a run ended. The numbers are the statuses of the process.
 #[derive(Clone, Copy, Debug, PartialEq, Eq)]
 pub enum Status {
@@ -15,7 +18,7 @@ pub enum Status {
     WriteFault = 4,
     /// The bytes aren't UTF-8.
     NotUtf8 = 5,
-    /// The source has more bytes than a text may have.
+    /// The source gave more bytes than a text may have.
     TooLong = 6,
     /// Want of memory.
     NoMemory = 7,
@@ -30,5 +33,11 @@ impl Status {
         ensures { result ≡ status_code self }
     {
         self as u8
+    }
+}
+
+impl Dup for Status {
+    fn dup(&self, _alloc: Global) -> Mem<Status> {
+        Ok(*self)
     }
 }

@@ -4,7 +4,7 @@
 -- `drop l.item-index l.items` over a slice and `l.item-iterator` over an iterator, or a `WritesEach` where there is no separator.
 -- Each goal is then a `search` with `in_joined` or `in_each`, what the calls of this turn ensure, and the turn itself,
 -- `left ≡ item ∷ next`: `item_at` gives it over a slice, and the clause `steps` of `next` over an iterator.
-use Rattle.std.proofs.Common.{◌≡◌, List, [], ◌∷◌, ◌++◌, ℕ, ◌+◌, ◌≤◌, ◌<◌, length, map, drop, get_or, Option, Result, Ok, Err, refl, ap, sym, ◌∙◌, append_assoc, arith}
+use Rattle.std.proofs.Common.{◌≡◌, List, [], ◌∷◌, ◌++◌, ℕ, ◌+◌, ◌<◌, length, map, drop, get_or, Option, Result, Ok, Err, refl, ap, sym, ◌∙◌, append_assoc}
 use Rattle.std.specs.Result.{IsErr}
 use Rattle.std.specs.List.{flat_map}
 use Rattle.std.specs.Io.KnownBytes.{append_known}
@@ -32,16 +32,16 @@ joined-is separator (text ∷ texts) = ap (λ s. text ++ s) (sym (joined_after-f
 
 -- of the whole text all is written but the rest
 pub data WritesUpTo {K : Type 0} (written : K → Option (List ℕ)) (faults : K → ℕ) (old now : K) (text rest : List ℕ) : Type 0 where
-  up_to : (front : List ℕ) → text ≡ front ++ rest → Takes (written old) (written now) front → faults old ≤ faults now → WritesUpTo written faults old now text rest
+  up_to : (front : List ℕ) → text ≡ front ++ rest → Takes (written old) (written now) front → faults now ≡ faults old → WritesUpTo written faults old now text rest
 
 module _ {K : Type 0} {written : K → Option (List ℕ)} {faults : K → ℕ} where
   UpTo-start : (k : K) (text : List ℕ) → WritesUpTo written faults k k text text
-  UpTo-start k text = up_to [] refl (append_known-nil (written k)) (omega arith)
+  UpTo-start k text = up_to [] refl (append_known-nil (written k)) refl
 
   UpTo-append : {T E : Type 0} {old now new : K} {text first : List ℕ} (rest : List ℕ) {x : T}
       → WritesUpTo written faults old now text (first ++ rest) → Writes {E = E} written faults now new first (Ok x) → WritesUpTo written faults old new text rest
   UpTo-append {old = old} {first = first} rest (up_to front split p l) (whole q m) =
-      up_to (front ++ first) (split ∙ sym (append_assoc front first rest)) (q ∙ ap (λ k. append_known k first) p ∙ append_known-append (written old) front first) (omega arith)
+      up_to (front ++ first) (split ∙ sym (append_assoc front first rest)) (q ∙ ap (λ k. append_known k first) p ∙ append_known-append (written old) front first) (m ∙ l)
 
   UpTo-last : {T E : Type 0} {old now new : K} {text rest : List ℕ} {result : Result T E}
       → WritesUpTo written faults old now text rest → Writes written faults now new rest result → Writes written faults old new text result

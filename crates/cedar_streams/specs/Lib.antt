@@ -1,5 +1,6 @@
 -- SPDX-License-Identifier: Apache-2.0
 pub mod Faults
+pub mod Answered
 pub mod Bytes
 pub mod Memory
 pub mod ReadStop

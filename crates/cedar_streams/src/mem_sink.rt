@@ -7,7 +7,7 @@ ghost use Rattle.cedar_streams.specs.Memory.{moved, after_write, after_failed_wr
 
 use crate::copying::copy_front;
 use crate::sink::{Sink, SinkFailed};
-use cedar_data::Mem;
+use cedar_data::{Dup, Mem};
 use std::alloc::Global;
 use std::marker::Model;
 
@@ -87,5 +87,20 @@ impl Sink for MemSink {
         let taken = copy_front(piece, &mut self.buf[self.filled..], self.most.max(1));
         self.filled += taken;
         Ok(taken)
+    }
+}
+
+impl Dup for MemSink {
+    fn dup(&self, _alloc: Global) -> Mem<MemSink> {
+        let buf = self.buf.clone()?;
+        let fail_at = self.fail_at.clone()?;
+        Ok(MemSink {
+            buf,
+            filled: self.filled,
+            most: self.most,
+            calls: self.calls,
+            fail_at,
+            faults: self.faults,
+        })
     }
 }

@@ -7,6 +7,8 @@ ghost use Rattle.cedar_streams.specs.Memory.{moved, after_read, after_failed_rea
 
 use crate::copying::copy_front;
 use crate::source::{Source, SourceFailed};
+use cedar_data::{Dup, Mem};
+use std::alloc::Global;
 use std::marker::Model;
 
 /// A source over bytes in memory, whose calls move few bytes and fail where that is wanted.
@@ -73,5 +75,20 @@ impl Source for MemSource {
         let taken = copy_front(&self.bytes[self.at..], buf, self.most.max(1));
         self.at += taken;
         Ok(taken)
+    }
+}
+
+impl Dup for MemSource {
+    fn dup(&self, _alloc: Global) -> Mem<MemSource> {
+        let bytes = self.bytes.clone()?;
+        let fail_at = self.fail_at.clone()?;
+        Ok(MemSource {
+            bytes,
+            at: self.at,
+            most: self.most,
+            calls: self.calls,
+            fail_at,
+            faults: self.faults,
+        })
     }
 }

@@ -1,10 +1,11 @@
 // SPDX-License-Identifier: Apache-2.0
-ghost use Rattle.std.specs.Prelude.{◌≡◌, ◌<◌, ◌≤◌, [], length, IfOk, IfSome, IsErrOf, Some, vec_len};
-ghost use Rattle.cedar_streams.specs.Bytes.{GivesFront};
+ghost use Rattle.std.specs.Prelude.{◌≡◌, ◌≤◌, IfOk, IsErrOf, vec_len};
+ghost use Rattle.cedar_streams.specs.Bytes.{GivesAll, GivesAtMost, GivesMoreThan};
 ghost use Rattle.cedar_streams.specs.Faults.{Rose};
 ghost use Rattle.cedar_streams.specs.declared.reading.ReadStop.TheVariants.{Fault, NoMemory};
 
 use crate::source::{Source, SourceFailed};
+use cedar_data::{Dup, Mem};
 use std::alloc::{AllocError, Global};
 use std::error::Error;
 use std::fmt;
@@ -17,7 +18,7 @@ const PIECE: usize = 65_536;
 pub enum ReadStop {
     /// The source failed.
     Fault,
-    /// The source has more bytes than the limit.
+    /// The source gave more bytes than the limit.
     TooLong,
     /// Want of memory.
     NoMemory,
@@ -40,6 +41,12 @@ impl fmt::Display for ReadStop {
 
 impl Error for ReadStop {}
 
+impl Dup for ReadStop {
+    fn dup(&self, _alloc: Global) -> Mem<ReadStop> {
+        Ok(*self)
+    }
+}
+
 impl From<SourceFailed> for ReadStop {
     ghost from_gives = { λ _ e. e ≡ Fault };
 
@@ -57,21 +64,27 @@ impl From<AllocError> for ReadStop {
 }
 
 /// Reads a source to its end, in the memory of the text and one piece. The limit is in bytes: a text
-/// of that length is read, and one that is longer is `TooLong`, unless the source fails or memory
-/// runs out before that is seen.
+/// of that length is read, and `TooLong` comes where the source gave more before it failed. The first
+/// read that fails is the last one.
+#[tactic(auto, using(crate::proofs::Known::gives_within, crate::proofs::Known::gives_beyond))]
 pub fn read_all<S: Source>(alloc: Global, source: &mut S, limit: usize) -> Result<Vec<u8>, ReadStop>
     // All that the source had left, and no more than the limit.
-    ensures within { IfOk result (λ text. vec_len text ≤ limit) }
-    ensures whole { IfOk result (λ text. IfSome (S.left source.old)
-        (λ input. (text.items ≡ input) × (S.left source.new ≡ Some []))) }
+    ensures whole { IfOk result (λ text.
+        GivesAll limit (S.left source.old) (S.left source.new) text.items
+        × (S.faults source.new ≡ S.faults source.old)) }
 
-    // Why it stopped.
+    // Why it stopped, what the source gave before, and whether it failed.
     ensures too_long { IsErrOf result ReadStop.TooLong →
-        IfSome (S.left source.old) (λ input. limit < length input) }
-    ensures fault { IsErrOf result ReadStop.Fault → Rose (S.faults source.old) (S.faults source.new) }
+        GivesMoreThan limit (S.left source.old) (S.left source.new)
+        × (S.faults source.new ≡ S.faults source.old) }
+    ensures fault { IsErrOf result ReadStop.Fault →
+        GivesAtMost limit (S.left source.old) (S.left source.new)
+        × Rose (S.faults source.old) (S.faults source.new) }
+    ensures no_memory { IsErrOf result ReadStop.NoMemory →
+        GivesAtMost limit (S.left source.old) (S.left source.new)
+        × (S.faults source.new ≡ S.faults source.old) }
 
     // In any case.
-    ensures front { GivesFront (S.left source.old) (S.left source.new) }
     ensures later { S.faults source.old ≤ S.faults source.new }
 {
     let mut piece = room_for_a_piece(alloc)?;

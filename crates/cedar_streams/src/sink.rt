@@ -4,6 +4,8 @@ ghost use Rattle.std.specs.Io.{WritesAtMost};
 ghost use Rattle.cedar_streams.specs.Bytes.{WriteTakes};
 ghost use Rattle.cedar_streams.specs.Faults.{HasCause};
 
+use cedar_data::{Dup, Mem};
+use std::alloc::Global;
 use std::error::Error;
 use std::fmt;
 
@@ -20,6 +22,12 @@ impl fmt::Display for SinkFailed {
 }
 
 impl Error for SinkFailed {}
+
+impl Dup for SinkFailed {
+    fn dup(&self, _alloc: Global) -> Mem<SinkFailed> {
+        Ok(*self)
+    }
+}
 
 /// What bytes are written to.
 pub trait Sink {

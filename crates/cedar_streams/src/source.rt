@@ -4,6 +4,8 @@ ghost use Rattle.std.specs.Io.{ReadsAtMost};
 ghost use Rattle.cedar_streams.specs.Bytes.{ReadGives};
 ghost use Rattle.cedar_streams.specs.Faults.{HasCause};
 
+use cedar_data::{Dup, Mem};
+use std::alloc::Global;
 use std::error::Error;
 use std::fmt;
 
@@ -20,6 +22,12 @@ impl fmt::Display for SourceFailed {
 }
 
 impl Error for SourceFailed {}
+
+impl Dup for SourceFailed {
+    fn dup(&self, _alloc: Global) -> Mem<SourceFailed> {
+        Ok(*self)
+    }
+}
 
 /// What bytes are read from.
 pub trait Source {

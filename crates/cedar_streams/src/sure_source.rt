@@ -6,6 +6,8 @@ ghost use Rattle.cedar_streams.specs.Faults.{HasCause};
 
 use crate::copying::copy_front;
 use crate::source::{Source, SourceFailed};
+use cedar_data::{Dup, Mem};
+use std::alloc::Global;
 use std::marker::Model;
 
 /// A source over bytes in memory that never fails. Contracts see it as the bytes that are left.
@@ -53,5 +55,12 @@ impl Source for SureSource {
         let taken = copy_front(&self.bytes[self.at..], buf, usize::MAX);
         self.at += taken;
         Ok(taken)
+    }
+}
+
+impl Dup for SureSource {
+    fn dup(&self, _alloc: Global) -> Mem<SureSource> {
+        let bytes = self.bytes.clone()?;
+        Ok(SureSource { bytes, at: self.at })
     }
 }

@@ -4,6 +4,7 @@ ghost use Rattle.cedar_streams.specs.Writes.{Writes};
 use crate::sink::{Sink, SinkFailed};
 
 /// Writes the whole text, and takes no memory. A failure leaves a front of the text written.
+#[tactic(auto, using(crate::proofs::Front::next_front))]
 pub fn write_all<K: Sink>(sink: &mut K, text: &[u8]) -> Result<(), SinkFailed>
     ensures { Writes K.written K.faults sink.old sink.new text.now result }
 {

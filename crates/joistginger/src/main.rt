@@ -3,42 +3,10 @@
 //! standard error why it is refused.
 #![tactic(auto)]
 
-use cedar_schema_tool::{Status, StdSink, StdSource, run};
-use std::io::{BufWriter, Write};
+use cedar_schema_tool::run_process;
 use std::process::ExitCode;
-use std::{env, io};
-
-/// How many bytes of a listing are kept before they go out.
-const OUTPUT_BUFFER: usize = 65_536;
 
 fn main(rt: HostRuntime) -> ExitCode {
-    let status = match words(&rt) {
-        Ok(words) => run_on_streams(&rt, words.as_slice()),
-        Err(error) if error.kind() == io::ErrorKind::OutOfMemory => Status::NoMemory,
-        Err(_) => Status::Usage,
-    };
+    let status = run_process(&rt);
     ExitCode::from(status.code())
-}
-
-/// The words of the process, without the name of the program.
-fn words(rt: &HostRuntime) -> io::Result<Vec<String>> {
-    let mut words = env::args(rt)?;
-    words.next();
-    let words = words.collect(rt.alloc())?;
-    Ok(words)
-}
-
-/// Runs the program on the streams of the process.
-fn run_on_streams(rt: &HostRuntime, words: &[String]) -> Status {
-    let Ok(buffer) = BufWriter::with_capacity(rt.alloc(), OUTPUT_BUFFER, rt.stdout()) else {
-        return Status::NoMemory;
-    };
-    let mut source = StdSource::new(rt.stdin());
-    let mut out = StdSink::new(buffer);
-    let mut err = StdSink::new(rt.stderr());
-    let status = run(rt.alloc(), words, &mut source, &mut out, &mut err);
-    if out.get_mut().flush().is_err() {
-        return Status::WriteFault;
-    }
-    status
 }

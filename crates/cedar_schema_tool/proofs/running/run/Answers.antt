@@ -1,7 +1,8 @@
 -- SPDX-License-Identifier: Apache-2.0
-use Rattle.std.proofs.Common.{◌≡◌, ℕ, List, [], Some, IfSome, map, refl, sym, subst, arith}
+use Rattle.std.proofs.Common.{ℕ, List, map, refl, sym, subst}
 use Rattle.std.specs.String.{string_bytes}
-use Rattle.cedar_schema_tool.specs.Running.{Streams, Reads}
+use Rattle.cedar_streams.specs.Bytes.{GivesAll}
+use Rattle.cedar_schema_tool.specs.Running.{Streams, Reads, longest_text}
 use Rattle.cedar_schema_tool.proofs.Answering.{answers-runs, answers-accepts}
 use Rattle.cedar_schema_tool.proofs.running.run.Goals as goal
 
@@ -30,8 +31,8 @@ returns-in-Ok-clause-runs g c =
       err_faults = g.E.Sink.faults c.answer.new.err;
     } in
     let reads : Reads before after c.as_slice.result.now = record {
-      whole = subst (λ (b : List ℕ). IfSome before.left (λ input. (b ≡ input) × (after.left ≡ Some []))) (sym c.as_slice.ensures.value) c.in-Ok.ensures.whole;
-      within = omega (arith, c.as_slice.ensures.len, c.in-Ok.ensures.within);
+      all = subst (λ (b : List ℕ). GivesAll longest_text before.left after.left b) (sym c.as_slice.ensures.value) c.in-Ok.ensures.whole.0;
+      calm = c.in-Ok.ensures.whole.1;
     } in
     answers-runs (map string_bytes c.args.words.now) c.in-Ok-Some.extensions (rw c.in-Ok-Some.field-0-is at c.in-Ok-Some.ensures) before after c.as_slice.result.now reads c.answer.result c.answer.ensures.answers
 
@@ -54,7 +55,7 @@ returns-in-Ok-clause-accepts g c =
       err_faults = g.E.Sink.faults c.answer.new.err;
     } in
     let reads : Reads before after c.as_slice.result.now = record {
-      whole = subst (λ (b : List ℕ). IfSome before.left (λ input. (b ≡ input) × (after.left ≡ Some []))) (sym c.as_slice.ensures.value) c.in-Ok.ensures.whole;
-      within = omega (arith, c.as_slice.ensures.len, c.in-Ok.ensures.within);
+      all = subst (λ (b : List ℕ). GivesAll longest_text before.left after.left b) (sym c.as_slice.ensures.value) c.in-Ok.ensures.whole.0;
+      calm = c.in-Ok.ensures.whole.1;
     } in
     answers-accepts (map string_bytes c.args.words.now) c.in-Ok-Some.extensions (rw c.in-Ok-Some.field-0-is at c.in-Ok-Some.ensures) before after c.as_slice.result.now reads c.answer.result c.answer.ensures.accepts

@@ -1,12 +1,8 @@
 -- SPDX-License-Identifier: Apache-2.0
 use Rattle.std.proofs.Common.{arith}
 use Rattle.std.proofs.lemmas.Grind.{common_steps}
-use Rattle.cedar_streams.proofs.Front.{WritesFront-next, WritesFront-stopped, WritesFront-end}
+use Rattle.cedar_streams.proofs.Front.{WritesFront-stopped, WritesFront-end}
 use Rattle.cedar_streams.proofs.writing.write_all.Goals as goal
-
-pub loop-rest-preserved : goal.loop-rest-preserved
-loop-rest-preserved g c =
-    WritesFront-next c.in_ok-taken.taken c.loop-rest.invariant c.in_ok-taken.ensures.bytes c.in_ok-taken.ensures.cause.later
 
 pub returns-in_err-taken : goal.returns-in_err-taken
 returns-in_err-taken g c =
