@@ -4,7 +4,7 @@ use Rattle.std.proofs.Common.{ℕ, Bool, true, false, ◌||◌, List, Option, So
 use Rattle.cedar_tokens.specs.Lexemes.{TextToken}
 use Rattle.cedar_tokens.specs.declared.token.TokenKind.TheVariants as kind
 use Rattle.cedar_grammar.specs.Productions.{Production, gives, ◌>>=◌, ◌>>◌, ◌∣◌, optional, maybe}
-use Rattle.cedar_grammar.specs.Trees.{Node, Place, placed, Text, Path, Attrs, TypeTree, Standard, Enum, Declaration, Entity}
+use Rattle.cedar_tree.specs.Trees.{Node, Place, placed, Text, Path, Attrs, TypeTree, Standard, Enum, Declaration, Entity}
 use Rattle.cedar_grammar.specs.Grammar.{is_keyword, is_mark_token, literal_value, keyword, mark, str, ident, idents, types, commas, bracketed, record_type, tags_clause, behind_record, shape_at}
 use Rattle.cedar_grammar.specs.Reading.{Reader, done, expect, on_next, a_keyword, a_mark, an_ident, commas_at, types_at, above_at, shape_reader, tags_at, record_behind, standard_behind, enum_behind, entity_behind}
 use Rattle.cedar_grammar.proofs.Agreement.{Agrees, gives_agrees, then_agrees, either_agrees, optional_agrees, maybe_agrees}

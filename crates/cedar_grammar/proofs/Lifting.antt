@@ -3,7 +3,7 @@
 use Rattle.std.proofs.Common.{ℕ, ◌≤◌, List, Some, None, codes, inl, inr, ⊎_elim, arith}
 use Rattle.cedar_tokens.specs.Lexemes.{TextToken}
 use Rattle.cedar_grammar.specs.Productions.{Production, gives, ◌>>=◌, ◌>>◌, ◌∣◌, ReadsMany, none, more, many, optional, maybe, separated, trailing}
-use Rattle.cedar_grammar.specs.Trees.{Node, TypeTree, ByKey}
+use Rattle.cedar_tree.specs.Trees.{Node, TypeTree, ByKey}
 use Rattle.cedar_grammar.specs.Grammar.{keyword, mark, name, path, ident, idents, names, bracketed, annots, annotated, attr_decl, record_type, type_upto, tags_clause, standard_entity, enum_entity, pr, context_type, app_decl, applies_to, action_decl, type_decl, decl, namespace, item_behind, schema}
 use Rattle.cedar_grammar.proofs.Levels.{level_as_nest}
 

@@ -6,7 +6,7 @@ use Rattle.cedar_tokens.specs.Lexemes.{TextToken}
 use Rattle.cedar_tokens.specs.declared.token.TokenKind.{TokenKind}
 use Rattle.cedar_tokens.specs.declared.token.TokenKind.TheVariants as kind
 use Rattle.cedar_grammar.specs.Productions.{each, Production, class, gives, ◌>>=◌, ◌>>◌, ◌∣◌, many, optional, maybe, trailing, Completable}
-use Rattle.cedar_grammar.specs.Trees.{Node, stands, placed, Place, Annotations, ByKey, by_key, TypeTree, Set, no_attrs, attrs_of, Principal, Resource, Named, Shape, Types, Context, Schema}
+use Rattle.cedar_tree.specs.Trees.{Node, stands, placed, Place, Annotations, ByKey, by_key, TypeTree, Set, no_attrs, attrs_of, Principal, Resource, Named, Shape, Types, Context, Schema}
 use Rattle.cedar_grammar.specs.Grammar.{at_token, text_where, is_word_token, is_keyword, is_mark_token, is_ident_token, literal_value, keyword, mark, word, str, ident, name, commas, bracketed, path_of, path, idents, names, one_or_list, types, qualified, ref, refs, annotation_of, keys_of, is_new_key, annotation, annots, annotated, attr_of, attr_decl, record_type, set_type, as_record, as_name, type_upto, tags_clause, standard_entity, enum_entity, pr, context_type, app_decl, applies_to, attributes_tail, action_decl, type_decl, decl, namespace, alone, item_behind, schema, Reads, Viable}
 use Rattle.cedar_grammar.proofs.Agreement.{Agrees, completed, begun, class_agrees, gives_agrees, either_agrees, then_agrees, many_agrees, each_agrees, optional_agrees, maybe_agrees, separated_agrees, trailing_agrees}
 use Rattle.cedar_grammar.proofs.FreshKeys.{fresh, fresh_is_new, fresh_is_word}

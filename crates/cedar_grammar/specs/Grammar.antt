@@ -10,7 +10,7 @@ use Rattle.cedar_tokens.specs.Lexemes.{TextToken}
 use Rattle.cedar_tokens.specs.declared.token.TokenKind.{TokenKind}
 use Rattle.cedar_tokens.specs.declared.token.TokenKind.TheVariants as kind
 use Rattle.cedar_grammar.specs.Productions.{Production, class, gives, ◌>>=◌, ◌>>◌, ◌∣◌, many, each, optional, maybe, separated, trailing}
-use Rattle.cedar_grammar.specs.Trees.{Node, Place, between, empty_before, stands, placed, Text, Path, Annotation, Annotations, ByKey, by_key, Annotated, TypeTree, Set, Ident, Record, Attrs, no_attrs, AttrDecl, attrs_of, Standard, Enum, PR, Principal, Resource, ContextDecl, Named, Shape, AppDecl, Types, Context, QualName, Declaration, Entity, Action, Common, Namespace, Schema}
+use Rattle.cedar_tree.specs.Trees.{Node, Place, between, empty_before, stands, placed, Text, Path, Annotation, Annotations, ByKey, by_key, Annotated, TypeTree, Set, Ident, Record, Attrs, no_attrs, AttrDecl, attrs_of, Standard, Enum, PR, Principal, Resource, ContextDecl, Named, Shape, AppDecl, Types, Context, QualName, Declaration, Entity, Action, Common, Namespace, Schema}
 
 -- the kinds of tokens
 abbrev pub is_word_kind : TokenKind → Bool

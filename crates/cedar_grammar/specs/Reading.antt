@@ -2,7 +2,7 @@
 -- How a parser goes through the tokens of a schema: each choice is by the next token alone.
 use Rattle.std.specs.Prelude.{ℕ, zero, suc, Bool, true, false, List, [], ◌∷◌, ◌++◌, length, codes, Option, Some, None, option_map, Result, Ok, Err}
 use Rattle.cedar_tokens.specs.Lexemes.{TextToken}
-use Rattle.cedar_grammar.specs.Trees.{Node, Place, between, stands, placed, Text, Path, Annotation, Annotations, ByKey, by_key, Annotated, TypeTree, Set, Attrs, no_attrs, AttrDecl, attrs_of, Standard, Enum, PR, Principal, Resource, Named, Shape, AppDecl, Types, Context, QualName, Declaration, Entity, Action, Common, Namespace, Schema}
+use Rattle.cedar_tree.specs.Trees.{Node, Place, between, stands, placed, Text, Path, Annotation, Annotations, ByKey, by_key, Annotated, TypeTree, Set, Attrs, no_attrs, AttrDecl, attrs_of, Standard, Enum, PR, Principal, Resource, Named, Shape, AppDecl, Types, Context, QualName, Declaration, Entity, Action, Common, Namespace, Schema}
 use Rattle.cedar_grammar.specs.Grammar.{text_where, is_word_token, is_keyword, is_mark_token, is_ident_token, literal_value, path_of, qualified, annotation_of, is_new_key, attr_of, as_record, as_name, behind_record, shape_at, alone}
 
 -- a reader gives a value and the tokens that are left, or how many are left where it finds a fault

@@ -3,8 +3,8 @@
 -- namespace, a common type, an enumerated type, tags, an `appliesTo`, a `?`, a record within an attribute's type, a
 -- path of several identifiers, a reference with a path, a string literal as a name. What annotations say is left out.
 use Rattle.std.specs.Prelude.{ℕ, ◌-◌, ◌==◌, true, false, List, [], ◌∷◌, length, map, Bool, Option, Some, None, option_map, flat_map}
-use Rattle.cedar_grammar.specs.Trees as tree
-use Rattle.cedar_grammar.specs.Trees.{Node, Text, Path, stands}
+use Rattle.cedar_tree.specs.Trees as tree
+use Rattle.cedar_tree.specs.Trees.{Node, Text, Path, stands}
 use Rattle.cedar_plain.specs.Plain.{TypeTree, Named, SetOf, DeclTree, Entities, Actions}
 
 -- goes on with a value, where there is one

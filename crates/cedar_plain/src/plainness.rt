@@ -1,7 +1,7 @@
 // SPDX-License-Identifier: Apache-2.0
 ghost use Rattle.std.specs.Prelude.{◌≡◌, ◌++◌, ◌∷◌, [], ℕ, List, Option, map, option_map, IfOk};
-ghost use Rattle.cedar_grammar.specs.Meanings as tree;
-ghost use Rattle.cedar_grammar.specs.Trees.{stands};
+ghost use Rattle.cedar_tree.specs.Meanings as tree;
+ghost use Rattle.cedar_tree.specs.Trees.{stands};
 ghost use Rattle.cedar_names.specs.Identifiers.{id_word, id_words};
 ghost use Rattle.cedar_text.specs.Lists.{elements};
 ghost use Rattle.cedar_tree.specs.declared.declaration.Declaration.TheVariants as declared;
