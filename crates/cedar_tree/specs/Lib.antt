@@ -1,6 +1,7 @@
 -- SPDX-License-Identifier: Apache-2.0
 pub use Rattle.cedar_data.specs.formers
 pub mod Annotating
+pub mod Comparing
 pub mod Declarations
 pub mod Faults
 pub mod Meanings
