@@ -1,15 +1,32 @@
 -- SPDX-License-Identifier: Apache-2.0
--- Annotations compare by their keys and values, places aside; annotated items by item, and then by annotations.
-use Rattle.std.specs.Prelude.{◌≡◌, ◌&&◌, ℕ, Bool, Some, nat_eq}
+-- Paths compare by their words, and annotations by their keys and values, places aside.
+use Rattle.std.specs.Prelude.{◌≡◌, ◌&&◌, ℕ, Bool, true, List, Some, nat_eq}
 use Rattle.std.specs.Cmp.{IsEquivalence, IsPartialEquivalence, IsPartialOrder, IsTotalOrder, partial_equiv_from_equiv, on_equiv, and_equiv, on_total, then_total, both_tied, po}
 use Rattle.std.specs.Cmp.Lexicographic.{nat_list_eq_equiv, nat_list_cmp_total, texts_ties, lists_equiv, lists_total, lists_ties, pointwise, slice_cmp}
+use Rattle.std.specs.Hash as fed
 use Rattle.std.specs.Ordering.{nat_cmp, ordering_then, eq_by_cmp}
 use Rattle.std.specs.declared.cmp.Ordering.{Ordering}
 use Rattle.cedar_names.specs.Annotating.{annotation_entries}
-use Rattle.cedar_names.specs.Identifiers.{any_word}
+use Rattle.cedar_names.specs.HashLaws.{name_fed, name_fed-alike}
+use Rattle.cedar_names.specs.Identifiers.{any_word, id_words}
+use Rattle.cedar_names.specs.Order.{words_eq}
 use Rattle.cedar_names.specs.declared.annotation.Annotation.{Annotation}
 use Rattle.cedar_names.specs.declared.annotation.Annotations.{Annotations}
 use Rattle.cedar_names.specs.declared.any_id.AnyId.{AnyId}
+use Rattle.cedar_tree.specs.Paths.{path_ids, name_of_path}
+use Rattle.cedar_tree.specs.declared.path.Path.{Path}
+
+-- the words of a path, outermost first
+abbrev pub path_words : Path → List (List ℕ)
+path_words p = id_words (path_ids p)
+
+-- what a path feeds a hasher: what the name that it is does
+abbrev pub path_fed : Path → fed.HashWrites
+path_fed p = name_fed (name_of_path p)
+
+-- paths with the same words feed the same
+pub path_fed-alike : (p q : Path) → words_eq (path_words p) (path_words q) ≡ true → path_fed p ≡ path_fed q
+path_fed-alike p q same = name_fed-alike (name_of_path p) (name_of_path q) same
 
 -- the same key and the same value
 abbrev pub entry_eq : AnyId × Annotation → AnyId × Annotation → Bool

@@ -5,7 +5,8 @@ ghost use Rattle.cedar_names.specs.Identifiers.{id_words, ids_left};
 ghost use Rattle.cedar_names.specs.Order.{words_eq};
 ghost use Rattle.cedar_names.specs.OrderLaws.{words-per, words-equiv};
 ghost use Rattle.cedar_text.specs.Joining.{joined};
-ghost use Rattle.cedar_tree.specs.Paths.{path_at, path_ids, path_words, path_fed, path_fed-alike, path_basename, path_namespace, path_loc, ids_at, in_cedar, name_of_path};
+ghost use Rattle.cedar_tree.specs.Comparing.{path_words, path_fed, path_fed-alike};
+ghost use Rattle.cedar_tree.specs.Paths.{path_at, path_ids, path_basename, path_namespace, path_loc, ids_at, in_cedar, name_of_path};
 
 use cedar_data::{Dup, Items, Mem, Text};
 use cedar_names::{Components, Id, InternalName, Loc, Node};
