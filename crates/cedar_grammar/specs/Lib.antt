@@ -2,6 +2,7 @@
 pub use Rattle.cedar_tree.specs.Meanings
 pub use Rattle.cedar_tree.specs.Trees
 pub mod Grammar
+pub mod Identifying
 pub mod Productions
 pub mod Reading
 pub mod Stops

@@ -2,6 +2,7 @@
 ghost use Rattle.std.specs.Prelude.{◌↔◌, ◌≡◌, ◌≤◌, ◌++◌, ℕ, List, [], Ok};
 ghost use Rattle.cedar_tokens.specs.Lexemes.{TextToken};
 ghost use Rattle.cedar_grammar.specs.Grammar.{schema, type_upto, Reads, Viable};
+ghost use Rattle.cedar_grammar.specs.Identifying.{SchemaOfIds};
 ghost use Rattle.cedar_grammar.specs.Productions.{Completable};
 ghost use Rattle.cedar_grammar.specs.Reading.{schema_at};
 ghost use Rattle.cedar_grammar.specs.Stops.{Finds};
@@ -32,6 +33,11 @@ pub fn levels_nest()
 pub fn reading_finds()
     ensures finds { (ts : List TextToken) → Finds ts (schema_at ts) }
     ensures found { (ts : List TextToken) (s : Schema) → Reads ts s → schema_at ts ≡ Ok (s, []) }
+{}
+
+/// A law with no work to do: wherever the grammar has an identifier, one stands in what was read.
+pub fn identifiers_read()
+    ensures { (ts : List TextToken) (s : Schema) → Reads ts s → SchemaOfIds s }
 {}
 
 /// A law with no work to do: tokens are one schema at most, places included.
