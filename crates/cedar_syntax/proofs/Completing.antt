@@ -30,11 +30,11 @@ accepts_found ts s (Err (failure.Refused fault)) gives found = absurd (let e : �
 accepts_found ts s (Err failure.NoMemory) gives found = tt
 
 -- viable tokens are those that some further ones complete
-abbrev Law : Type 0
+abbrev pub Law : Type 0
 Law = (ts : List TextToken) → Viable ts ↔ ((further : List TextToken) × (s : Schema) × Reads (ts ++ further) s)
 
 -- the front of viable tokens is viable
-viable_front : Law → (front rest : List TextToken) → Viable (front ++ rest) → Viable front
+pub viable_front : Law → (front rest : List TextToken) → Viable (front ++ rest) → Viable front
 viable_front law front rest viable =
     let whole = (law (front ++ rest)).0 viable in
     (law front).1 (rest ++ whole.0, whole.1, subst (λ (ts : List TextToken). Reads ts whole.1) (append_assoc front rest whole.0) whole.2)

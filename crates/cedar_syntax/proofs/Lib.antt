@@ -1,6 +1,7 @@
 -- SPDX-License-Identifier: Apache-2.0
 pub mod Completing
 pub mod GoingBack
+pub mod OneCause
 pub mod Rules
 pub mod Straying
 pub mod Unclosed

@@ -71,6 +71,11 @@ pub record IsRepeatedKey (front : List TextToken) (first t : TextToken) : Type 0
   pub word : IsTrue (is_word t.text)
   pub same : first.text ≡ t.text
 
+-- of the keys of the same list that have the word, this is the last
+pub record IsLastRepeat (front : List TextToken) (first t : TextToken) : Type 0 where
+  pub key : IsRepeatedKey front first t
+  pub last : (other : TextToken) (r : IsRepeatedKey front other t) → length key.after ≤ length r.after
+
 -- no key of the same list has the word
 abbrev pub IsNoRepeat : List TextToken → TextToken → Type 0
 IsNoRepeat front t = (first : TextToken) → IsRepeatedKey front first t → ⊥
@@ -106,7 +111,7 @@ StraysBy front t (EmptyList span) = ClosesEmptyEnum front t × (span ≡ span_of
 StraysBy front t (StringEscape span bad) = HasBadEscape front t bad × (span ≡ span_of t.loc)
 StraysBy front t (ReservedIdentifierUsed word) = IsReservedWord front t × (word ≡ record { node = t.text; loc = t.loc })
 StraysBy front t (DuplicateAnnotations key first second) =
-    (any_word key ≡ t.text) × (second ≡ span_of t.loc) × ((token : TextToken) × IsRepeatedKey front token t × (first ≡ span_of token.loc))
+    (any_word key ≡ t.text) × (second ≡ span_of t.loc) × ((token : TextToken) × IsLastRepeat front token t × (first ≡ span_of token.loc))
 
 -- where a text has tokens that are no schema, what the first that strays has to do with the error
 abbrev pub StraysAs : List TextToken → TextToken → ParseErrorKind → Type 0

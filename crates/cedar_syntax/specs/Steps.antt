@@ -20,7 +20,7 @@ use Rattle.cedar_grammar.specs.Grammar.{Reads, OpensAtMost}
 use Rattle.cedar_tree.specs.Meanings.{schema_tree}
 use Rattle.cedar_grammar.specs.Stops.{Finds}
 use Rattle.cedar_parser.specs.declared.fault.Fault.{Fault}
-use Rattle.cedar_syntax.specs.Causes.{Cause, IsFirstTooMany, HasBadEscape, IsRepeatedKey, IsNoRepeat, IsReservedWord, StraysBy}
+use Rattle.cedar_syntax.specs.Causes.{Cause, IsFirstTooMany, HasBadEscape, IsLastRepeat, IsNoRepeat, IsReservedWord, StraysBy}
 use Rattle.cedar_syntax.specs.Texts.{ReadsText, open_at_most}
 
 -- the error says that no token begins at a place of the text
@@ -41,10 +41,10 @@ TellsReading ts (Ok tree) = Reads ts (schema_tree tree)
 TellsReading ts (Err (failure.Refused fault)) = Finds ts (Err fault.left)
 TellsReading ts (Err failure.NoMemory) = Unit {0}
 
--- the earlier key that a word repeats; none where it repeats none
+-- the last of the keys that a word repeats; none where it repeats none
 abbrev pub TellsRepeat : List TextToken → TextToken → Option TextToken → Type 0
 TellsRepeat front t None = IsNoRepeat front t
-TellsRepeat front t (Some first) = IsRepeatedKey front first t
+TellsRepeat front t (Some first) = IsLastRepeat front first t
 
 -- the bad escape for which a literal strays; none where it strays for none
 abbrev pub TellsEscape : List TextToken → TextToken → Option BadEscape → Type 0

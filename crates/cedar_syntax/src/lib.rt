@@ -18,5 +18,6 @@ pub use cedar_tree::{
     Path, PathIntoIter, PathIter, PrimitiveType, QualName, Schema, StandardEntityDecl, Type,
     TypeDecl, UserError, deduplicate_annotations,
 };
+pub use causes::one_cause;
 pub use lexing::tokens;
 pub use parsing::parse_schema;
