@@ -11,6 +11,7 @@ mod repeats;
 mod token_kinds;
 mod users;
 
+pub use causes::one_cause;
 pub use cedar_tokens::{Token, TokenKind};
 pub use cedar_tree::{
     ActionDecl, Annotated, AppDecl, AttrDecl, BUILTIN_TYPES, ContextDecl, Decl, Declaration,
@@ -18,6 +19,5 @@ pub use cedar_tree::{
     Path, PathIntoIter, PathIter, PrimitiveType, QualName, Schema, StandardEntityDecl, Type,
     TypeDecl, UserError, deduplicate_annotations,
 };
-pub use causes::one_cause;
 pub use lexing::tokens;
 pub use parsing::parse_schema;
