@@ -5,6 +5,7 @@ pub mod Annotations
 pub mod Choices
 pub mod Entities
 pub mod FreshKeys
+pub mod Identified
 pub mod Levels
 pub mod Lifting
 pub mod Lists

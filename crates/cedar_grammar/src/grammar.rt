@@ -2,10 +2,12 @@
 ghost use Rattle.std.specs.Prelude.{◌↔◌, ◌≡◌, ◌≤◌, ◌++◌, ℕ, List, [], Ok};
 ghost use Rattle.cedar_tokens.specs.Lexemes.{TextToken};
 ghost use Rattle.cedar_grammar.specs.Grammar.{schema, type_upto, Reads, Viable};
+ghost use Rattle.cedar_grammar.specs.Identifying.{SchemaOfIds};
 ghost use Rattle.cedar_grammar.specs.Productions.{Completable};
 ghost use Rattle.cedar_grammar.specs.Reading.{schema_at};
 ghost use Rattle.cedar_grammar.specs.Stops.{Finds};
-ghost use Rattle.cedar_grammar.specs.Trees.{Node, Schema, TypeTree, nest};
+ghost use Rattle.cedar_tree.specs.Trees.{Node, Schema, TypeTree};
+ghost use Rattle.cedar_tree.specs.Nesting.{nest};
 
 /// A law with no work to do: the tokens at which a schema may stop short are exactly those that
 /// some further tokens complete to a schema, however deep types may nest.
@@ -31,6 +33,11 @@ pub fn levels_nest()
 pub fn reading_finds()
     ensures finds { (ts : List TextToken) → Finds ts (schema_at ts) }
     ensures found { (ts : List TextToken) (s : Schema) → Reads ts s → schema_at ts ≡ Ok (s, []) }
+{}
+
+/// A law with no work to do: wherever the grammar has an identifier, one stands in what was read.
+pub fn identifiers_read()
+    ensures { (ts : List TextToken) (s : Schema) → Reads ts s → SchemaOfIds s }
 {}
 
 /// A law with no work to do: tokens are one schema at most, places included.

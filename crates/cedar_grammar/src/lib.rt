@@ -4,4 +4,4 @@
 
 mod grammar;
 
-pub use grammar::{grammar_viable, levels_nest, one_reading, reading_finds};
+pub use grammar::{grammar_viable, identifiers_read, levels_nest, one_reading, reading_finds};

@@ -9,10 +9,10 @@ use Rattle.cedar_tokens.specs.declared.lexeme.Lexeme.{Lexeme}
 use Rattle.cedar_tree.specs.declared.annotated.Annotated as noted
 use Rattle.cedar_tree.specs.declared.declaration.Namespace as declared
 use Rattle.cedar_grammar.specs.Grammar.{Reads, Viable}
-use Rattle.cedar_grammar.specs.Meanings.{schema_tree}
+use Rattle.cedar_tree.specs.Meanings.{schema_tree}
 use Rattle.cedar_grammar.specs.Reading.{schema_at}
 use Rattle.cedar_grammar.specs.Stops.{Finds}
-use Rattle.cedar_grammar.specs.Trees.{Schema}
+use Rattle.cedar_tree.specs.Trees.{Schema}
 use Rattle.cedar_parser.specs.Giving.{Gives}
 use Rattle.cedar_parser.specs.declared.fault.Fault.{Fault}
 use Rattle.cedar_syntax.specs.Causes.{AcceptsAs}
@@ -30,11 +30,11 @@ accepts_found ts s (Err (failure.Refused fault)) gives found = absurd (let e : �
 accepts_found ts s (Err failure.NoMemory) gives found = tt
 
 -- viable tokens are those that some further ones complete
-abbrev Law : Type 0
+abbrev pub Law : Type 0
 Law = (ts : List TextToken) → Viable ts ↔ ((further : List TextToken) × (s : Schema) × Reads (ts ++ further) s)
 
 -- the front of viable tokens is viable
-viable_front : Law → (front rest : List TextToken) → Viable (front ++ rest) → Viable front
+pub viable_front : Law → (front rest : List TextToken) → Viable (front ++ rest) → Viable front
 viable_front law front rest viable =
     let whole = (law (front ++ rest)).0 viable in
     (law front).1 (rest ++ whole.0, whole.1, subst (λ (ts : List TextToken). Reads ts whole.1) (append_assoc front rest whole.0) whole.2)

@@ -1,9 +1,9 @@
 -- SPDX-License-Identifier: Apache-2.0
 -- Going back along annotations finds the key that a word repeats, and misses none.
-use Rattle.std.proofs.Common.{◌≡◌, ℕ, Bool, true, false, ◌&&◌, IsTrue, cond, List, [], ◌∷◌, ◌++◌, map, codes, Option, option_map, refl, ap, sym, ◌∙◌, subst}
+use Rattle.std.proofs.Common.{◌≡◌, ◌≤◌, ℕ, Bool, true, false, ◌&&◌, IsTrue, cond, List, [], ◌∷◌, ◌++◌, length, map, codes, Option, option_map, refl, ap, sym, ◌∙◌, subst, arith}
 use Rattle.std.specs.Str.{bytes_eq}
 use Rattle.std.proofs.lemmas.Slice.Eq.{bytes_eq-Decides}
-use Rattle.std.proofs.lemmas.List.{map-append, same_from_push}
+use Rattle.std.proofs.lemmas.List.{map-append, same_from_push, length-append}
 use Rattle.cedar_tokens.specs.Lexemes.{TextToken, lexeme_token}
 use Rattle.cedar_tokens.specs.declared.lexeme.Lexeme.{Lexeme}
 use Rattle.cedar_tokens.specs.declared.token.TokenKind.{TokenKind}
@@ -26,46 +26,6 @@ tested P false x y holds fails = fails
 pub seen_from-push : (word : List ℕ) (seen : Seen) (ls : List Lexeme) (l : Lexeme) → seen_from word seen (ls ++ l ∷ []) ≡ seen_from word (seen_with word l seen) ls
 seen_from-push word seen [] l = refl
 seen_from-push word seen (m ∷ ls) l = ap (seen_with word m) (seen_from-push word seen ls l)
-
--- a word with a mark `@` before it begins annotations with what follows
-abbrev Behind : List TextToken → Type 0
-Behind ts = (at key : TextToken) → IsTrue (is_mark_token (codes "@") at) → IsTrue (is_word_token key) → AreAnnotations (at ∷ key ∷ ts)
-
-module _ (source word : List ℕ) where
-  -- what the tokens have at their front, of which so much was seen
-  abbrev Shows : List TextToken → Seen → Type 0
-  Shows ts Annotations = AreAnnotations ts
-  Shows ts Closing = (opening value : TextToken) → IsTrue (is_mark_token (codes "(") opening) → IsTrue (is_str_kind value.kind) → Behind (opening ∷ value ∷ ts)
-  Shows ts Literal = (opening : TextToken) → IsTrue (is_mark_token (codes "(") opening) → Behind (opening ∷ ts)
-  Shows ts Opening = Behind ts
-  Shows ts (Key k) = (after : List TextToken) × (ts ≡ lexeme_token source k ∷ after) × ((at : TextToken) → IsTrue (is_mark_token (codes "@") at) → AreAnnotations (at ∷ lexeme_token source k ∷ after))
-  Shows ts (Repeated k) =
-      (outside : List TextToken) × (at : TextToken) × (after : List TextToken) × (ts ≡ outside ++ (at ∷ lexeme_token source k ∷ after))
-      × AreAnnotations (at ∷ lexeme_token source k ∷ after) × IsTrue (bytes_eq k.text.now word)
-  Shows ts Other = Unit {0}
-
-  -- one token more
-  shows_step : (l : Lexeme) (ts : List TextToken) (seen : Seen) → Shows ts seen → Shows (lexeme_token source l ∷ ts) (seen_with word l seen)
-  shows_step l ts Annotations h =
-      tested (Shows (lexeme_token source l ∷ ts)) (is_word_kind l.kind) (Key l) (cond (is_mark_token (codes ")") (bare l)) Closing Other)
-      (λ key. (ts, refl, λ at a. key_alone a key h))
-      (tested (Shows (lexeme_token source l ∷ ts)) (is_mark_token (codes ")") (bare l)) Closing Other (λ closing opening value o v at key a k. with_value a k o v closing h) tt)
-  shows_step l ts Closing h = tested (Shows (lexeme_token source l ∷ ts)) (is_str_kind l.kind) Literal Other (λ value opening o. h opening (lexeme_token source l) o value) tt
-  shows_step l ts Literal h = tested (Shows (lexeme_token source l ∷ ts)) (is_mark_token (codes "(") (bare l)) Opening Other (λ opening. h (lexeme_token source l) opening) tt
-  shows_step l ts Opening h = tested (Shows (lexeme_token source l ∷ ts)) (is_word_kind l.kind) (Key l) Other (λ key. (ts, refl, λ at a. h at (lexeme_token source l) a key)) tt
-  shows_step l ts (Key k) h =
-      tested (Shows (lexeme_token source l ∷ ts)) (is_mark_token (codes "@") (bare l)) (cond (bytes_eq k.text.now word) (Repeated k) Annotations) Other
-      (λ at. tested (Shows (lexeme_token source l ∷ ts)) (bytes_eq k.text.now word) (Repeated k) Annotations
-      (λ same. ([], lexeme_token source l, h.0, ap (λ (rest : List TextToken). lexeme_token source l ∷ rest) h.1, h.2 (lexeme_token source l) at, same))
-      (subst AreAnnotations (ap (λ (rest : List TextToken). lexeme_token source l ∷ rest) (sym h.1)) (h.2 (lexeme_token source l) at)))
-      tt
-  shows_step l ts (Repeated k) h = (lexeme_token source l ∷ h.0, h.1, h.2, ap (λ (rest : List TextToken). lexeme_token source l ∷ rest) h.3, h.4, h.5)
-  shows_step l ts Other h = tt
-
-  -- what is seen of tokens from their end
-  shows : (ls : List Lexeme) → Shows (map (lexeme_token source) ls) (seen_from word Annotations ls)
-  shows [] = no_more
-  shows (l ∷ ls) = shows_step l (map (lexeme_token source) ls) (seen_from word Annotations ls) (shows ls)
 
 -- whole annotations are seen, or the key
 abbrev IsWhole : Seen → Type 0
@@ -212,29 +172,102 @@ module _ (source word : List ℕ) where
   found_behind (o ∷ outside) at first after list equal (l ∷ ls) same =
       found_step word l (seen_from word Annotations ls) (found_behind outside at first after list equal ls cc)
 
+-- a word with a mark `@` before it begins annotations with what follows
+abbrev Behind : List TextToken → Type 0
+Behind ts = (at key : TextToken) → IsTrue (is_mark_token (codes "@") at) → IsTrue (is_word_token key) → AreAnnotations (at ∷ key ∷ ts)
+
+module _ (source word : List ℕ) where
+  -- in these tokens no key with the word has fewer tokens behind it than these
+  abbrev Nearest : List TextToken → List TextToken → Type 0
+  Nearest ts after =
+      (outside : List TextToken) (at first : TextToken) (behind : List TextToken) → ts ≡ outside ++ (at ∷ first ∷ behind) → AreAnnotations (at ∷ first ∷ behind)
+      → IsTrue (bytes_eq first.text word) → length after ≤ length behind
+
+  -- in these tokens a key with the word is found
+  abbrev Finds : List TextToken → Seen → Type 0
+  Finds ts seen =
+      (outside : List TextToken) (at first : TextToken) (behind : List TextToken) → ts ≡ outside ++ (at ∷ first ∷ behind) → AreAnnotations (at ∷ first ∷ behind)
+      → IsTrue (bytes_eq first.text word) → IsFound seen
+
+  -- the first key with the word from the end
+  nearest_here : (l : TextToken) (k : Lexeme) (ts after : List TextToken) → ts ≡ lexeme_token source k ∷ after → Finds ts (Key k) → Nearest (l ∷ ts) after
+  nearest_here l k ts after is none [] at first behind same list equal = omega (arith, ap length same, ap length is)
+  nearest_here l k ts after is none (o ∷ outside) at first behind same list equal =
+      let others : ts ≡ outside ++ (at ∷ first ∷ behind) = cc in
+      absurd (none outside at first behind others list equal)
+
+  -- it stays the nearest with tokens before it
+  nearest_on : (l at k : TextToken) (ts outside after : List TextToken) → ts ≡ outside ++ (at ∷ k ∷ after) → Nearest ts after → Nearest (l ∷ ts) after
+  nearest_on l at k ts outside after is near [] at' first behind same list equal = omega (arith, ap length same, ap length is, length-append outside (at ∷ k ∷ after))
+  nearest_on l at k ts outside after is near (o ∷ outside') at' first behind same list equal =
+      let others : ts ≡ outside' ++ (at' ∷ first ∷ behind) = cc in
+      near outside' at' first behind others list equal
+
+  -- what the tokens have at their front, of which so much was seen
+  abbrev Shows : List TextToken → Seen → Type 0
+  Shows ts Annotations = AreAnnotations ts
+  Shows ts Closing = (opening value : TextToken) → IsTrue (is_mark_token (codes "(") opening) → IsTrue (is_str_kind value.kind) → Behind (opening ∷ value ∷ ts)
+  Shows ts Literal = (opening : TextToken) → IsTrue (is_mark_token (codes "(") opening) → Behind (opening ∷ ts)
+  Shows ts Opening = Behind ts
+  Shows ts (Key k) = (after : List TextToken) × (ts ≡ lexeme_token source k ∷ after) × ((at : TextToken) → IsTrue (is_mark_token (codes "@") at) → AreAnnotations (at ∷ lexeme_token source k ∷ after))
+  Shows ts (Repeated k) =
+      (outside : List TextToken) × (at : TextToken) × (after : List TextToken) × (ts ≡ outside ++ (at ∷ lexeme_token source k ∷ after))
+      × AreAnnotations (at ∷ lexeme_token source k ∷ after) × IsTrue (bytes_eq k.text.now word) × Nearest ts after
+  Shows ts Other = Unit {0}
+
+  -- one token more
+  shows_step : (l : Lexeme) (ts : List TextToken) (seen : Seen) → Finds ts seen → Shows ts seen → Shows (lexeme_token source l ∷ ts) (seen_with word l seen)
+  shows_step l ts Annotations found h =
+      tested (Shows (lexeme_token source l ∷ ts)) (is_word_kind l.kind) (Key l) (cond (is_mark_token (codes ")") (bare l)) Closing Other)
+      (λ key. (ts, refl, λ at a. key_alone a key h))
+      (tested (Shows (lexeme_token source l ∷ ts)) (is_mark_token (codes ")") (bare l)) Closing Other (λ closing opening value o v at key a k. with_value a k o v closing h) tt)
+  shows_step l ts Closing found h = tested (Shows (lexeme_token source l ∷ ts)) (is_str_kind l.kind) Literal Other (λ value opening o. h opening (lexeme_token source l) o value) tt
+  shows_step l ts Literal found h = tested (Shows (lexeme_token source l ∷ ts)) (is_mark_token (codes "(") (bare l)) Opening Other (λ opening. h (lexeme_token source l) opening) tt
+  shows_step l ts Opening found h = tested (Shows (lexeme_token source l ∷ ts)) (is_word_kind l.kind) (Key l) Other (λ key. (ts, refl, λ at a. h at (lexeme_token source l) a key)) tt
+  shows_step l ts (Key k) found h =
+      tested (Shows (lexeme_token source l ∷ ts)) (is_mark_token (codes "@") (bare l)) (cond (bytes_eq k.text.now word) (Repeated k) Annotations) Other
+      (λ at. tested (Shows (lexeme_token source l ∷ ts)) (bytes_eq k.text.now word) (Repeated k) Annotations
+      (λ same. ([], lexeme_token source l, h.0, ap (λ (rest : List TextToken). lexeme_token source l ∷ rest) h.1, h.2 (lexeme_token source l) at, same, nearest_here (lexeme_token source l) k ts h.0 h.1 found))
+      (subst AreAnnotations (ap (λ (rest : List TextToken). lexeme_token source l ∷ rest) (sym h.1)) (h.2 (lexeme_token source l) at)))
+      tt
+  shows_step l ts (Repeated k) found h = (lexeme_token source l ∷ h.0, h.1, h.2, ap (λ (rest : List TextToken). lexeme_token source l ∷ rest) h.3, h.4, h.5, nearest_on (lexeme_token source l) h.1 (lexeme_token source k) ts h.0 h.2 h.3 h.6)
+  shows_step l ts Other found h = tt
+
+  -- what is seen of tokens from their end
+  shows : (ls : List Lexeme) → Shows (map (lexeme_token source) ls) (seen_from word Annotations ls)
+  shows [] = no_more
+  shows (l ∷ ls) =
+      shows_step l (map (lexeme_token source) ls) (seen_from word Annotations ls)
+      (λ outside at first behind same list equal. found_behind source word outside at first behind list equal ls same)
+      (shows ls)
+
 -- a found key
 repeated : (source : List ℕ) (before : List Lexeme) (last token : Lexeme) (seen : Seen) → Shows source token.text.now (map (lexeme_token source) before) seen
     → ((first : TextToken) → IsRepeatedKey (map (lexeme_token source) (before ++ last ∷ [])) first (lexeme_token source token) → IsFound seen)
+    → ((first : TextToken) (r : IsRepeatedKey (map (lexeme_token source) (before ++ last ∷ [])) first (lexeme_token source token)) → map (lexeme_token source) before ≡ r.outside ++ (r.at ∷ first ∷ r.after))
     → IsTrue (is_mark_token (codes "@") (bare last)) → IsTrue (is_word_kind token.kind) → IsTrue (is_word token.text.now)
     → TellsRepeat (map (lexeme_token source) (before ++ last ∷ [])) (lexeme_token source token) (option_map (lexeme_token source) (found_key seen))
-repeated source before last token (Repeated k) shown found at key word = record {
-  outside = shown.0;
-  at = shown.1;
-  after = shown.2;
-  again = lexeme_token source last;
-  is = map-append (lexeme_token source) before (last ∷ []) ∙ ap (λ (ts : List TextToken). ts ++ lexeme_token source last ∷ []) shown.3;
-  list = shown.4;
-  begins_again = at;
-  key = key;
-  word = word;
-  same = (bytes_eq-Decides k.text.now token.text.now).0 shown.5;
+repeated source before last token (Repeated k) shown found parts at key word = record {
+  key = record {
+    outside = shown.0;
+    at = shown.1;
+    after = shown.2;
+    again = lexeme_token source last;
+    is = map-append (lexeme_token source) before (last ∷ []) ∙ ap (λ (ts : List TextToken). ts ++ lexeme_token source last ∷ []) shown.3;
+    list = shown.4;
+    begins_again = at;
+    key = key;
+    word = word;
+    same = (bytes_eq-Decides k.text.now token.text.now).0 shown.5;
+  };
+  last = λ other r. shown.6 r.outside r.at other r.after (parts other r) r.list ((bytes_eq-Decides other.text token.text.now).1 r.same);
 }
-repeated source before last token Annotations shown found at key word = found
-repeated source before last token Closing shown found at key word = found
-repeated source before last token Literal shown found at key word = found
-repeated source before last token Opening shown found at key word = found
-repeated source before last token (Key k) shown found at key word = found
-repeated source before last token Other shown found at key word = found
+repeated source before last token Annotations shown found parts at key word = found
+repeated source before last token Closing shown found parts at key word = found
+repeated source before last token Literal shown found parts at key word = found
+repeated source before last token Opening shown found parts at key word = found
+repeated source before last token (Key k) shown found parts at key word = found
+repeated source before last token Other shown found parts at key word = found
 
 -- what is found in the tokens before an `@` is the key that a word behind it repeats
 pub tells_repeat : (source : List ℕ) (front before : List Lexeme) (last token : Lexeme) (found : Option Lexeme) → front ≡ before ++ last ∷ []
@@ -244,7 +277,9 @@ tells_repeat source front before last token found is at key word result =
     subst (λ (ls : List Lexeme). TellsRepeat (map (lexeme_token source) ls) (lexeme_token source token) (option_map (lexeme_token source) found)) (sym is)
     (subst (λ k. TellsRepeat (map (lexeme_token source) (before ++ last ∷ [])) (lexeme_token source token) (option_map (lexeme_token source) k)) (sym result)
     (repeated source before last token (seen_from token.text.now Annotations before) (shows source token.text.now before)
-    (λ first r. let parts = same_from_push (map (lexeme_token source) before) (r.outside ++ (r.at ∷ first ∷ r.after)) (lexeme_token source last) r.again
-    (sym (map-append (lexeme_token source) before (last ∷ [])) ∙ r.is) in
-    found_behind source token.text.now r.outside r.at first r.after r.list ((bytes_eq-Decides first.text token.text.now).1 r.same) before parts.0)
-    at key word))
+    (λ first r. found_behind source token.text.now r.outside r.at first r.after r.list ((bytes_eq-Decides first.text token.text.now).1 r.same) before (parts first r))
+    parts at key word))
+  where
+    parts : (first : TextToken) (r : IsRepeatedKey (map (lexeme_token source) (before ++ last ∷ [])) first (lexeme_token source token)) → map (lexeme_token source) before ≡ r.outside ++ (r.at ∷ first ∷ r.after)
+    parts first r =
+        (same_from_push (map (lexeme_token source) before) (r.outside ++ (r.at ∷ first ∷ r.after)) (lexeme_token source last) r.again (sym (map-append (lexeme_token source) before (last ∷ [])) ∙ r.is)).0

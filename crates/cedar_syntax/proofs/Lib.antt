@@ -1,7 +1,7 @@
 -- SPDX-License-Identifier: Apache-2.0
 pub mod Completing
-pub mod DeepPlaces
 pub mod GoingBack
+pub mod OneCause
 pub mod Rules
 pub mod Straying
 pub mod Unclosed

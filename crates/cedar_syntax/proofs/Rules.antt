@@ -74,7 +74,7 @@ pub no_rule : (front : List TextToken) (t : TextToken) → (ClosesEmptyEnum fron
 no_rule front t list escape repeat reserved (EmptyList span) strays = list strays.0
 no_rule front t list escape repeat reserved (StringEscape span bad) strays = escape bad strays.0
 no_rule front t list escape repeat reserved (ReservedIdentifierUsed word) strays = reserved strays.0
-no_rule front t list escape repeat reserved (DuplicateAnnotations key first second) strays = repeat strays.2.0 strays.2.1
+no_rule front t list escape repeat reserved (DuplicateAnnotations key first second) strays = repeat strays.2.0 strays.2.1.key
 
 -- the last of the four decides
 pub last_rule : (front : List TextToken) (t : TextToken) (found : Option UserError) → (ClosesEmptyEnum front t → ⊥) → TellsEscape front t None → IsNoRepeat front t

@@ -9,16 +9,17 @@ use Rattle.cedar_tokens.specs.Lexemes.{TextToken, text_token}
 use Rattle.cedar_tokens.specs.Lexing.{Lexes}
 use Rattle.cedar_tokens.specs.declared.token.Token.{Token}
 use Rattle.cedar_grammar.specs.Grammar.{OpensAtMost, Reads, unclosed}
-use Rattle.cedar_grammar.specs.Trees.{Node, TypeTree, Schema, nest, outermost_types}
+use Rattle.cedar_tree.specs.Trees.{Node, TypeTree, Schema}
+use Rattle.cedar_tree.specs.Nesting.{nest, outermost_types, deep_place, NestsWell, nest_at_most}
 use Rattle.cedar_syntax.specs.Causes.{IsFirstTooMany, IsFirstTooDeep, IsTooDeep}
-use Rattle.cedar_syntax.specs.Steps.{TellsBrackets, deep_place}
-use Rattle.cedar_syntax.specs.Texts.{HasTokens, ReadsText, NestsWell, open_at_most, nest_at_most}
+use Rattle.cedar_syntax.specs.Steps.{TellsBrackets}
+use Rattle.cedar_syntax.specs.Texts.{HasTokens, ReadsText, open_at_most}
 
 -- a text has one list of tokens at most
-abbrev OneList : Type 0
+abbrev pub OneList : Type 0
 OneList = (text : List ℕ) (one other : List Token) → Lexes text one → Lexes text other → one ≡ other
 
-same_tokens : OneList → (text : List ℕ) (ts us : List TextToken) → HasTokens text ts → HasTokens text us → ts ≡ us
+pub same_tokens : OneList → (text : List ℕ) (ts us : List TextToken) → HasTokens text ts → HasTokens text us → ts ≡ us
 same_tokens law text ts us one other = one.2 ∙ ap (map (text_token text)) (law text one.0 other.0 one.1 other.1) ∙ sym other.2
 
 -- a schema that a text is, by these tokens of it
@@ -29,7 +30,7 @@ brackets_here : OneList → (text : List ℕ) (ts : List TextToken) (s : Schema)
 brackets_here law text ts s lexed whole = subst (OpensAtMost open_at_most) (sym (same_tokens law text ts whole.tokens lexed whole.lexed)) whole.brackets
 
 -- there is no bracket at which too many are open where nowhere too many are
-not_too_many : (ts : List TextToken) (t : TextToken) → IsFirstTooMany ts t → OpensAtMost open_at_most ts → ⊥
+pub not_too_many : (ts : List TextToken) (t : TextToken) → IsFirstTooMany ts t → OpensAtMost open_at_most ts → ⊥
 not_too_many ts t first opens =
     let whole : ts ≡ (first.front ++ t ∷ []) ++ first.rest = first.is ∙ sym (append_assoc first.front (t ∷ []) first.rest) in
     let part : take (length (first.front ++ t ∷ [])) ts ≡ first.front ++ t ∷ [] =
@@ -87,14 +88,18 @@ too_deep text ts s found span lexed brackets reads is place =
     let deep = deep_type s found span is place in
     inr (ts, s, deep.0, lexed, brackets, reads, deep.1, deep.2)
 
+-- among types of which none nests too deep there is none that does
+pub none_deep : (types front : List (Node TypeTree)) (t : Node TypeTree) (rest : List (Node TypeTree)) → types ≡ front ++ t ∷ rest → nest_at_most < nest t.node
+    → All (λ n. nest n.node ≤ nest_at_most) types → ⊥
+none_deep types front t rest is here well =
+    let within : length front < length types = omega (arith, ap length is, length-append front (t ∷ rest)) in
+    let same : get_or types (length front) t ≡ t = ap (λ (us : List (Node TypeTree)). get_or us (length front) t) is ∙ get_or_at front t rest t (length front) refl in
+    let few : nest t.node ≤ nest_at_most = subst (λ (n : Node TypeTree). nest n.node ≤ nest_at_most) same (All-get_or (λ n. nest n.node ≤ nest_at_most) types (length front) t within well) in
+    let many : nest_at_most < nest t.node = here in
+    absurd (omega arith)
+
 -- and then the text is no schema
 pub none_too_deep : (s : Schema) (found : Option Span) (span : Span) → found ≡ deep_place (outermost_types s) → found ≡ Some span → NestsWell s → ⊥
 none_too_deep s found span is place well =
     let deep = deep_type s found span is place in
-    let first = deep.1 in
-    let within : length first.front < length (outermost_types s) = omega (arith, ap length first.is, length-append first.front (deep.0 ∷ first.rest)) in
-    let same : get_or (outermost_types s) (length first.front) deep.0 ≡ deep.0 =
-    ap (λ (us : List (Node TypeTree)). get_or us (length first.front) deep.0) first.is ∙ get_or_at first.front deep.0 first.rest deep.0 (length first.front) refl in
-    let few : nest deep.0.node ≤ nest_at_most = subst (λ (t : Node TypeTree). nest t.node ≤ nest_at_most) same (All-get_or (λ t. nest t.node ≤ nest_at_most) (outermost_types s) (length first.front) deep.0 within well) in
-    let many : nest_at_most < nest deep.0.node = first.here in
-    absurd (omega arith)
+    none_deep (outermost_types s) deep.1.front deep.0 deep.1.rest deep.1.is deep.1.here well

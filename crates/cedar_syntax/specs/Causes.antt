@@ -20,10 +20,11 @@ use Rattle.cedar_tree.specs.declared.parse_error.ParseErrors.{ParseErrors}
 use Rattle.cedar_tree.specs.declared.parse_error.UserError.{UserError}
 use Rattle.cedar_tree.specs.declared.parse_error.UserError.TheVariants.{EmptyList, StringEscape, ReservedIdentifierUsed, DuplicateAnnotations}
 use Rattle.cedar_grammar.specs.Grammar.{Reads, Viable, OpensAtMost, unclosed, is_keyword, is_mark_token, is_word_token, is_str_kind, literal_body}
-use Rattle.cedar_grammar.specs.Meanings.{schema_tree}
+use Rattle.cedar_tree.specs.Meanings.{schema_tree}
 use Rattle.cedar_grammar.specs.Stops.{IsFirstStray, EndsEarly}
-use Rattle.cedar_grammar.specs.Trees.{Node, TypeTree, Schema, nest, outermost_types}
-use Rattle.cedar_syntax.specs.Texts.{HasTokens, ReadsText, open_at_most, nest_at_most}
+use Rattle.cedar_tree.specs.Trees.{Node, TypeTree, Schema}
+use Rattle.cedar_tree.specs.Nesting.{nest, outermost_types, nest_at_most}
+use Rattle.cedar_syntax.specs.Texts.{HasTokens, ReadsText, open_at_most}
 
 -- the token opens the first bracket at which too many are open
 pub record IsFirstTooMany (ts : List TextToken) (t : TextToken) : Type 0 where
@@ -70,6 +71,11 @@ pub record IsRepeatedKey (front : List TextToken) (first t : TextToken) : Type 0
   pub word : IsTrue (is_word t.text)
   pub same : first.text ≡ t.text
 
+-- of the keys of the same list that have the word, this is the last
+pub record IsLastRepeat (front : List TextToken) (first t : TextToken) : Type 0 where
+  pub key : IsRepeatedKey front first t
+  pub last : (other : TextToken) (r : IsRepeatedKey front other t) → length key.after ≤ length r.after
+
 -- no key of the same list has the word
 abbrev pub IsNoRepeat : List TextToken → TextToken → Type 0
 IsNoRepeat front t = (first : TextToken) → IsRepeatedKey front first t → ⊥
@@ -105,7 +111,7 @@ StraysBy front t (EmptyList span) = ClosesEmptyEnum front t × (span ≡ span_of
 StraysBy front t (StringEscape span bad) = HasBadEscape front t bad × (span ≡ span_of t.loc)
 StraysBy front t (ReservedIdentifierUsed word) = IsReservedWord front t × (word ≡ record { node = t.text; loc = t.loc })
 StraysBy front t (DuplicateAnnotations key first second) =
-    (any_word key ≡ t.text) × (second ≡ span_of t.loc) × ((token : TextToken) × IsRepeatedKey front token t × (first ≡ span_of token.loc))
+    (any_word key ≡ t.text) × (second ≡ span_of t.loc) × ((token : TextToken) × IsLastRepeat front token t × (first ≡ span_of token.loc))
 
 -- where a text has tokens that are no schema, what the first that strays has to do with the error
 abbrev pub StraysAs : List TextToken → TextToken → ParseErrorKind → Type 0

@@ -1,15 +1,17 @@
 // SPDX-License-Identifier: Apache-2.0
-ghost use Rattle.std.specs.Prelude.{map, IfOk, Err};
+ghost use Rattle.std.specs.Prelude.{◌≡◌, ℕ, List, map, IfOk, Err};
 ghost use Rattle.cedar_grammar.specs.Grammar.{OpensAtMost};
 ghost use Rattle.cedar_grammar.specs.Stops.{Finds};
 ghost use Rattle.cedar_tokens.specs.Lexemes.{lexeme_token};
+ghost use Rattle.cedar_tree.specs.declared.parse_error.ParseErrorKind.{ParseErrorKind as Kind};
 ghost use Rattle.cedar_syntax.specs.Causes.{Cause, StraysAs};
 ghost use Rattle.cedar_syntax.specs.Texts.{HasTokens, open_at_most};
 
 use crate::token_kinds::span;
 use crate::users::rule_error;
 use cedar_data::{Mem, Text};
-use cedar_tokens::Lexeme;
+use cedar_grammar::{grammar_viable, one_reading};
+use cedar_tokens::{Lexeme, one_place, one_token_list, tokens_without_place};
 use cedar_tree::ParseErrorKind;
 use std::alloc::Global;
 
@@ -30,6 +32,17 @@ fn stray_kind(
         span: span(token),
         token: text,
     })
+}
+
+/// A law with no work to do: a text has one cause at most for being no schema.
+pub fn one_cause()
+    ensures { (text : List ℕ) (one other : Kind) → Cause text one → Cause text other → one ≡ other }
+{
+    one_token_list();
+    one_place();
+    tokens_without_place();
+    grammar_viable();
+    one_reading();
 }
 
 /// Why the tokens of the source stop being a schema, where so many of them are left.

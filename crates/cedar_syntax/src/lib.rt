@@ -5,13 +5,13 @@
 mod brackets;
 mod causes;
 mod lexing;
-mod nesting;
 mod parsing;
 mod reading;
 mod repeats;
 mod token_kinds;
 mod users;
 
+pub use causes::one_cause;
 pub use cedar_tokens::{Token, TokenKind};
 pub use cedar_tree::{
     ActionDecl, Annotated, AppDecl, AttrDecl, BUILTIN_TYPES, ContextDecl, Decl, Declaration,

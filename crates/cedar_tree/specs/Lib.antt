@@ -1,6 +1,10 @@
 -- SPDX-License-Identifier: Apache-2.0
 pub use Rattle.cedar_data.specs.formers
 pub mod Annotating
+pub mod Comparing
 pub mod Declarations
 pub mod Faults
+pub mod Meanings
+pub mod Nesting
 pub mod Paths
+pub mod Trees

@@ -1,16 +1,20 @@
 // SPDX-License-Identifier: Apache-2.0
-ghost use Rattle.std.specs.Prelude.{◌≡◌, Some, None, IfOk};
+ghost use Rattle.std.specs.Prelude.{◌≡◌, ◌&&◌, Some, None, IfOk, refl};
+ghost use Rattle.std.specs.Cmp.{on_per, and_per, on_equiv, and_equiv, on_po, then_po, on_total, then_total, then_agrees, both_tied};
+ghost use Rattle.std.specs.Ordering.{ordering_then, partial_ordering_then};
 ghost use Rattle.cedar_names.specs.Annotating.{annotation_entries};
 ghost use Rattle.cedar_text.specs.Failures.{IfRefused};
+ghost use Rattle.cedar_tree.specs.Comparing.{annotations_eq, annotations_cmp, annotations-per, annotations-equiv, annotations-po, annotations-total, annotations-ties};
 ghost use Rattle.cedar_tree.specs.Annotating.{meaning, repeat_in, value_text};
 
 use crate::parse_error::UserError;
 use cedar_data::{Dup, Failure, Map, Mem, Out, Text};
 use cedar_names::{Annotation, Annotations, AnyId, Node, Span};
 use std::alloc::Global;
+use std::cmp::Ordering;
 
-/// An item with its annotations.
-#[derive(Debug, Drop, PartialEq, Eq, PartialOrd, Ord)]
+/// An item with its annotations. Comparisons leave the places of annotations out.
+#[derive(Debug, Drop)]
 pub struct Annotated<T> {
     /// The item. Its place, where it has one, leaves the annotations out.
     pub item: T,
@@ -23,6 +27,52 @@ impl<T: Dup> Dup for Annotated<T> {
         let annotations = self.annotations.dup(alloc)?;
         let item = self.item.dup(alloc)?;
         Ok(Annotated { item, annotations })
+    }
+}
+
+impl<T: PartialEq> PartialEq for Annotated<T> {
+    ghost eq = { λ a b. T.eq a.item b.item && annotations_eq a.annotations b.annotations };
+
+    ghost laws = { and_per (on_per (λ a. a.item) T.PartialEq.laws) (on_per (λ a. a.annotations) annotations-per) };
+
+    fn eq(&self, other: &Self) -> bool {
+        self.item == other.item && self.annotations == other.annotations
+    }
+}
+
+impl<T: Eq> Eq for Annotated<T> {
+    ghost laws = { and_equiv (on_equiv (λ a. a.item) T.Eq.laws) (on_equiv (λ a. a.annotations) annotations-equiv) };
+}
+
+impl<T: PartialOrd> PartialOrd for Annotated<T> {
+    ghost partial_cmp = { λ a b. partial_ordering_then (T.partial_cmp a.item b.item) (Some (annotations_cmp a.annotations b.annotations)) };
+
+    ghost laws = { then_po (on_po (λ a. a.item) T.PartialOrd.laws) (on_po (λ a. a.annotations) annotations-po) };
+
+    fn partial_cmp(&self, other: &Self) -> Option<Ordering> {
+        match self.item.partial_cmp(&other.item) {
+            Some(Ordering::Equal) => Some(self.annotations.cmp(&other.annotations)),
+            different => different,
+        }
+    }
+}
+
+impl<T: Ord> Ord for Annotated<T> {
+    ghost cmp = { λ a b. ordering_then (T.cmp a.item b.item) (annotations_cmp a.annotations b.annotations) };
+
+    ghost total = { then_total (on_total (λ a. a.item) T.total) (on_total (λ a. a.annotations) annotations-total) };
+
+    ghost matches_partial_cmp = { then_agrees (λ a b. T.matches_partial_cmp a.item b.item) (λ a b. refl) };
+
+    ghost matches_eq = { λ a b.
+        both_tied _ _ (T.cmp a.item b.item) (annotations_cmp a.annotations b.annotations)
+        (T.matches_eq a.item b.item) (annotations-ties a.annotations b.annotations) };
+
+    fn cmp(&self, other: &Self) -> Ordering {
+        match self.item.cmp(&other.item) {
+            Ordering::Equal => self.annotations.cmp(&other.annotations),
+            different => different,
+        }
     }
 }
 

@@ -2,7 +2,10 @@
 ghost use Rattle.std.specs.Prelude.{◌≡◌, [], None, Some, IfOk};
 ghost use Rattle.std.specs.Vec.Iter.{into_iter_items};
 ghost use Rattle.cedar_names.specs.Identifiers.{id_words, ids_left};
+ghost use Rattle.cedar_names.specs.Order.{words_eq};
+ghost use Rattle.cedar_names.specs.OrderLaws.{words-per, words-equiv};
 ghost use Rattle.cedar_text.specs.Joining.{joined};
+ghost use Rattle.cedar_tree.specs.Comparing.{path_words, path_fed, path_fed-alike};
 ghost use Rattle.cedar_tree.specs.Paths.{path_at, path_ids, path_basename, path_namespace, path_loc, ids_at, in_cedar, name_of_path};
 
 use cedar_data::{Dup, Items, Mem, Text};
@@ -10,16 +13,15 @@ use cedar_names::{Components, Id, InternalName, Loc, Node};
 use cedar_text::is_cedar;
 use std::alloc::Global;
 use std::fmt;
+use std::hash::{Hash, Hasher};
 use std::vec::IntoIter;
 
 /// A name as it stands in the text: a basename in a namespace of identifiers, which may be empty. Comparisons leave the
 /// place out.
 #[derive(Debug, Drop)]
-#[derive_where(PartialEq, Eq, Hash)]
 pub struct Path {
     basename: Id,
     namespace: Items<Id>,
-    #[derive_where(skip(EqHashOrd))]
     loc: Loc,
 }
 
@@ -124,6 +126,39 @@ impl Path {
             None => is_cedar(first.as_ref()),
             Some(_) => false,
         }
+    }
+}
+
+/// Whether the identifiers of two paths are the same.
+fn have_same_ids(left: &Path, right: &Path) -> bool
+    ensures { result ≡ words_eq (path_words left.now) (path_words right.now) }
+{
+    left.basename == right.basename && left.namespace == right.namespace
+}
+
+impl PartialEq for Path {
+    ghost eq = { λ a b. words_eq (path_words a) (path_words b) };
+
+    ghost laws = { words-per path_words };
+
+    fn eq(&self, other: &Self) -> bool {
+        have_same_ids(self, other)
+    }
+}
+
+impl Eq for Path {
+    ghost laws = { words-equiv path_words };
+}
+
+/// A path is hashed as the name that it is.
+impl Hash for Path {
+    ghost hash_input = { path_fed };
+
+    ghost respects_eq = { path_fed-alike };
+
+    fn hash<H: Hasher>(&self, state: &mut H) {
+        self.basename.hash(state);
+        self.namespace.hash(state);
     }
 }
 
