@@ -3,9 +3,10 @@ ghost use Rattle.std.specs.Prelude.{◌≡◌, ℕ, ◌<◌, ◌≤◌, length, 
 ghost use Rattle.cedar_names.specs.Identifiers.{id_word};
 ghost use Rattle.cedar_text.specs.Lists.{elements};
 ghost use Rattle.cedar_grammar.specs.Grammar.{shape_at, behind_record};
-ghost use Rattle.cedar_grammar.specs.Meanings.{node_of, path_tree, attrs_tree, type_tree, decl_tree};
+ghost use Rattle.cedar_grammar.specs.Meanings.{node_of, path_tree, attrs_tree, type_tree, entity_tree, decl_tree};
 ghost use Rattle.cedar_grammar.specs.Reading.{above_at, types_at, shape_reader, tags_at, standard_behind, enum_behind, entity_behind, type_at};
-ghost use Rattle.cedar_parser.specs.Behind.{standard_rest};
+ghost use Rattle.cedar_grammar.specs.Trees.{Entity, placed};
+ghost use Rattle.cedar_parser.specs.Behind.{standard_rest, enum_end};
 ghost use Rattle.cedar_parser.specs.Giving.{Gives, tokens_of, lexeme_node};
 
 use crate::fault::Fault;
@@ -126,15 +127,28 @@ impl<'s> Parser<'s> {
         let tags = self.tags(tokens)?;
         let semicolon = self.expect_mark(tokens, ";")?;
         let (attrs, tags) = self.shape_and_tags(shape, tags, semicolon)?;
-        let loc = self.place(entity.start, semicolon.end)?;
         let decl = StandardEntityDecl {
             names,
             member_of_types,
             attrs,
             tags,
         };
+        Ok(self.entity_of(entity, EntityDecl::Standard(decl), semicolon)?)
+    }
+
+    /// The declaration of these entity types, from its word to its `;`.
+    fn entity_of(
+        &self,
+        entity: Lexeme<'_>,
+        decl: EntityDecl,
+        semicolon: Lexeme<'_>,
+    ) -> Mem<Node<Declaration>>
+        ensures { IfOk result (λ node. node_of decl_tree node ≡ placed (Entity (entity_tree decl))
+            (lexeme_node self.now.source.now entity.entry).loc (lexeme_node self.now.source.now semicolon.entry).loc) }
+    {
+        let loc = self.place(entity.start, semicolon.end)?;
         Ok(Node {
-            node: Declaration::Entity(EntityDecl::Standard(decl)),
+            node: Declaration::Entity(decl),
             loc,
         })
     }
@@ -156,7 +170,7 @@ impl<'s> Parser<'s> {
     }
 
     /// Takes what follows `enum`.
-    #[tactic(auto, unfolding(cedar_grammar::specs::Reading::enum_behind))]
+    #[tactic(auto, unfolding(cedar_grammar::specs::Reading::enum_behind, crate::specs::Behind::enum_end))]
     fn enumeration<'a>(
         &self,
         tokens: &mut Tokens<'_, 'a>,
@@ -169,13 +183,26 @@ impl<'s> Parser<'s> {
     {
         self.expect_mark(tokens, "[")?;
         let choices = self.commas::<Literals>(tokens)?;
+        let decl = EntityDecl::Enum(EnumEntityDecl { names, choices });
+        self.enumeration_end(tokens, entity, decl)
+    }
+
+    /// Takes what follows the choices of these enumerated entity types: `]` and `;`.
+    #[tactic(auto, unfolding(crate::specs::Behind::enum_end))]
+    fn enumeration_end<'a>(
+        &self,
+        tokens: &mut Tokens<'_, 'a>,
+        entity: Lexeme<'a>,
+        decl: EntityDecl,
+    ) -> Out<Node<Declaration>, Fault>
+        ensures read { Gives (node_of decl_tree) (tokens_of self.now.source.now tokens.new.rest.now) result
+            (enum_end (lexeme_node self.now.source.now entity.entry) (entity_tree decl)
+            (tokens_of self.now.source.now tokens.old.rest.now)) }
+        ensures shorter { OnOk result (length tokens.new.rest.now < length tokens.old.rest.now) }
+    {
         self.expect_mark(tokens, "]")?;
         let semicolon = self.expect_mark(tokens, ";")?;
-        let loc = self.place(entity.start, semicolon.end)?;
-        Ok(Node {
-            node: Declaration::Entity(EntityDecl::Enum(EnumEntityDecl { names, choices })),
-            loc,
-        })
+        Ok(self.entity_of(entity, decl, semicolon)?)
     }
 
     /// Takes what follows `entity`.
