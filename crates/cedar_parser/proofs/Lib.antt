@@ -7,5 +7,5 @@ pub mod Faults
 pub mod TypeTrees
 pub mod Braces
 pub mod Noting
-pub mod Applies
 pub mod Items
+pub mod Endings

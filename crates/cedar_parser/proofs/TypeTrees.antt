@@ -28,6 +28,3 @@ tree_of_record attrs = ap type_tree (sym (made.rolls-Record attrs)) ∙ «fold-r
 -- an attribute means its name, whether it is required, and its type
 pub tree_of_attr : (name : Node (List ℕ)) (required : Bool) (ty : Node «Type») → attr_tree (record { name = name; required = required; ty = ty }) ≡ record { name = name; required = required; ty = node_of type_tree ty }
 tree_of_attr name required ty = fold-roll-AttrDecl TypeTree AttrDecl type_level attr_level (record { name = name; required = required; ty = ty })
-
--- the trees of types, layer by layer
-pub ruleset type_trees = (tree_of_set, tree_of_name, tree_of_record, tree_of_attr)

@@ -1,9 +1,13 @@
 -- SPDX-License-Identifier: Apache-2.0
 -- What readers find behind a piece of which the whole keeps the place, the name or what was read so far.
 use Rattle.std.specs.Prelude.{List, codes, Some, option_map}
-use Rattle.cedar_grammar.specs.Grammar.{shape_at, behind_shape}
-use Rattle.cedar_grammar.specs.Reading.{Reader, ◌>>=◌, ◌>>◌, done, looped, expect, a_mark, braced_at, annots_at, one_or_list_at, ref_at, above_at, shape_reader, tags_at, app_at, applies_at, tail_at, decl_round, item_at}
-use Rattle.cedar_grammar.specs.Trees.{Node, Text, Path, TypeTree, Annotated, AppDecl, Standard, Entity, ActionDecl, Action, Declaration, Namespace, placed, between}
+use Rattle.cedar_grammar.specs.Grammar.{as_name, shape_at, behind_shape}
+use Rattle.cedar_grammar.specs.Reading.{Reader, ◌>>=◌, ◌>>◌, done, looped, expect, a_mark, path_behind, braced_at, annots_at, one_or_list_at, ref_at, above_at, shape_reader, tags_at, app_at, applies_at, tail_at, decl_round, item_at}
+use Rattle.cedar_grammar.specs.Trees.{Node, Place, Text, Path, TypeTree, Annotated, AppDecl, Standard, Entity, ActionDecl, Action, Declaration, Namespace, placed, stands, between}
+
+-- the rest of a path that begins with this identifier, as a type
+unfoldable pub name_behind : Node Text → Reader (Node TypeTree)
+name_behind n = path_behind n >>= λ p. done (as_name p)
 
 -- what follows the parents of entity types
 unfoldable pub standard_rest : Reader (Node TypeTree) → Node Text → List (Node Text) → List Path → Reader (Node Declaration)
@@ -22,21 +26,20 @@ standard_rest type entity ns parents = do
 unfoldable pub braces_behind : Reader (Node Text)
 braces_behind = expect (a_mark (codes "{")) >> expect (a_mark (codes "}"))
 
--- what follows what actions apply to
-unfoldable pub action_end : Node Text → ActionDecl → Reader (Node Declaration)
-action_end action decl = do
+-- what follows what actions apply to: where the whole stands, which begins at this word
+unfoldable pub action_end : Node Text → Reader Place
+action_end action = do
   tail_at
   semicolon ← expect (a_mark (codes ";"))
-  done (placed (Action decl) action.loc semicolon.loc)
+  done (between action.loc semicolon.loc)
 
 -- what follows the names of actions
 unfoldable pub action_rest : Reader (Node TypeTree) → Node Text → List (Node Text) → Reader (Node Declaration)
 action_rest type action ns = do
   parents ← above_at (one_or_list_at ref_at)
   applies ← applies_at type
-  tail_at
-  semicolon ← expect (a_mark (codes ";"))
-  done (placed (Action (record { names = ns; parents = parents; app_decls = applies })) action.loc semicolon.loc)
+  loc ← action_end action
+  done (stands (Action (record { names = ns; parents = parents; app_decls = applies })) loc)
 
 -- what follows the `{` of what an action applies to
 unfoldable pub apps_behind : Reader (Node TypeTree) → Node Text → Reader (Node (List (Node AppDecl)))

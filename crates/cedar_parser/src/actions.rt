@@ -1,8 +1,8 @@
 // SPDX-License-Identifier: Apache-2.0
 ghost use Rattle.std.specs.Prelude.{◌≡◌, ℕ, ◌<◌, ◌≤◌, length, map, IfOk, OnOk, option_map};
 ghost use Rattle.cedar_text.specs.Lists.{elements};
-ghost use Rattle.cedar_grammar.specs.Meanings.{node_of, listed, path_tree, qual_tree, scope_tree, app_tree, action_tree, decl_tree};
-ghost use Rattle.cedar_grammar.specs.Reading.{above_at, one_or_list_at, ref_at, scope_behind, context_behind, app_at, applies_at, tail_at, action_behind, type_at};
+ghost use Rattle.cedar_grammar.specs.Meanings.{node_of, listed, path_tree, qual_tree, scope_tree, app_tree, decl_tree};
+ghost use Rattle.cedar_grammar.specs.Reading.{above_at, braced_at, one_or_list_at, ref_at, scope_behind, context_behind, app_at, applies_at, tail_at, action_behind, type_at};
 ghost use Rattle.cedar_grammar.specs.Trees.{Types, placed, stands};
 ghost use Rattle.cedar_parser.specs.Behind.{action_rest, action_end, apps_behind, braces_behind};
 ghost use Rattle.cedar_parser.specs.Giving.{Gives, tokens_of, lexeme_node};
@@ -10,10 +10,21 @@ ghost use Rattle.cedar_parser.specs.Giving.{Gives, tokens_of, lexeme_node};
 use crate::fault::Fault;
 use crate::lists::{Names, Paths, References};
 use crate::tokens::{Parser, Tokens};
-use cedar_data::{Mem, Out, Text};
-use cedar_names::{Node, NonEmpty};
+use cedar_data::{Items, Mem, Out, Text};
+use cedar_names::{Loc, Node, NonEmpty};
 use cedar_tokens::Lexeme;
 use cedar_tree::{ActionDecl, AppDecl, ContextDecl, Declaration, PR, PRAppDecl, Path, QualName};
+
+/// These items, of which there is one at least.
+fn non_empty<T: Drop>(items: Items<T>) -> NonEmpty<T>
+    requires { 0 < length items }
+    ensures { elements result ≡ items }
+{
+    let mut items = items.into_vec();
+    let head = items.remove(0);
+    let tail = Items::from_vec(items);
+    NonEmpty { head, tail }
+}
 
 impl<'s> Parser<'s> {
     /// Takes the actions after `in`, if it stands next.
@@ -120,7 +131,33 @@ impl<'s> Parser<'s> {
         self.context(tokens, keyword)
     }
 
+    /// Takes parts of what an action applies to, with commas between, and the `}` behind them.
+    fn app_list<'a>(
+        &self,
+        tokens: &mut Tokens<'_, 'a>,
+    ) -> Out<(Items<Node<AppDecl>>, Lexeme<'a>), Fault>
+        ensures read { (n : ℕ) → length tokens.old.rest.now < n
+            → Gives (λ r. (map (node_of app_tree) r.0, lexeme_node self.now.source.now r.1)) (tokens_of self.now.source.now tokens.new.rest.now) result
+            (braced_at (app_at (type_at n)) (tokens_of self.now.source.now tokens.old.rest.now)) }
+        ensures some { IfOk result (λ r. 0 < length r.0) }
+        ensures shorter { OnOk result (length tokens.new.rest.now < length tokens.old.rest.now) }
+    {
+        let mut apps = Items::new(self.alloc);
+        'apps: loop {
+            let app = self.app(tokens)?;
+            apps.push(app)?;
+            if let None = self.accept_mark(tokens, ",") {
+                let closing = self.expect_mark(tokens, "}")?;
+                return Ok((apps, closing));
+            }
+            if let Some(closing) = self.accept_mark(tokens, "}") {
+                return Ok((apps, closing));
+            }
+        }
+    }
+
     /// Takes the parts of what an action applies to, behind `{`, and `}`.
+    #[tactic(auto, unfolding(crate::specs::Behind::apps_behind))]
     fn apps<'a>(
         &self,
         tokens: &mut Tokens<'_, 'a>,
@@ -130,21 +167,10 @@ impl<'s> Parser<'s> {
             (apps_behind (type_at n) (lexeme_node self.now.source.now opening.entry) (tokens_of self.now.source.now tokens.old.rest.now)) }
         ensures shorter { OnOk result (length tokens.new.rest.now < length tokens.old.rest.now) }
     {
-        let first = self.app(tokens)?;
-        let mut apps = NonEmpty::singleton(self.alloc, first);
-        'apps: loop {
-            if let None = self.accept_mark(tokens, ",") {
-                let closing = self.expect_mark(tokens, "}")?;
-                let loc = self.place(opening.start, closing.end)?;
-                return Ok(Node { node: apps, loc });
-            }
-            if let Some(closing) = self.accept_mark(tokens, "}") {
-                let loc = self.place(opening.start, closing.end)?;
-                return Ok(Node { node: apps, loc });
-            }
-            let app = self.app(tokens)?;
-            apps.push(app)?;
-        }
+        let (apps, closing) = self.app_list(tokens)?;
+        let loc = self.place(opening.start, closing.end)?;
+        let node = non_empty(apps);
+        Ok(Node { node, loc })
     }
 
     /// Takes what follows `appliesTo`, if it stands next.
@@ -190,29 +216,20 @@ impl<'s> Parser<'s> {
         Ok(false)
     }
 
-    /// Takes what follows what these actions apply to: maybe `attributes {}`, and `;`.
+    /// Takes what follows what actions apply to, maybe `attributes {}`, and `;`: the place from their word to there.
     #[tactic(auto, unfolding(crate::specs::Behind::action_end))]
-    fn action_end<'a>(
-        &self,
-        tokens: &mut Tokens<'_, 'a>,
-        action: Lexeme<'a>,
-        decl: ActionDecl,
-    ) -> Out<Node<Declaration>, Fault>
-        ensures read { Gives (node_of decl_tree) (tokens_of self.now.source.now tokens.new.rest.now) result
-            (action_end (lexeme_node self.now.source.now action.entry) (action_tree decl) (tokens_of self.now.source.now tokens.old.rest.now)) }
+    fn action_end<'a>(&self, tokens: &mut Tokens<'_, 'a>, action: Lexeme<'a>) -> Out<Loc, Fault>
+        ensures read { Gives (λ loc. loc) (tokens_of self.now.source.now tokens.new.rest.now) result
+            (action_end (lexeme_node self.now.source.now action.entry) (tokens_of self.now.source.now tokens.old.rest.now)) }
         ensures shorter { OnOk result (length tokens.new.rest.now < length tokens.old.rest.now) }
     {
         self.tail(tokens)?;
         let semicolon = self.expect_mark(tokens, ";")?;
-        let loc = self.place(action.start, semicolon.end)?;
-        Ok(Node {
-            node: Declaration::Action(decl),
-            loc,
-        })
+        Ok(self.place(action.start, semicolon.end)?)
     }
 
     /// Takes what follows the names of actions.
-    #[tactic(auto, unfolding(crate::specs::Behind::action_rest, crate::specs::Behind::action_end))]
+    #[tactic(auto, unfolding(crate::specs::Behind::action_rest))]
     fn action_rest<'a>(
         &self,
         tokens: &mut Tokens<'_, 'a>,
@@ -225,16 +242,20 @@ impl<'s> Parser<'s> {
     {
         let parents = self.actions_above(tokens)?;
         let app_decls = self.applies(tokens)?;
+        let loc = self.action_end(tokens, action)?;
         let decl = ActionDecl {
             names,
             parents,
             app_decls,
         };
-        self.action_end(tokens, action, decl)
+        Ok(Node {
+            node: Declaration::Action(decl),
+            loc,
+        })
     }
 
     /// Takes what follows `action`.
-    #[tactic(auto, unfolding(cedar_grammar::specs::Reading::action_behind, crate::specs::Behind::action_rest))]
+    #[tactic(auto, unfolding(cedar_grammar::specs::Reading::action_behind))]
     pub fn action<'a>(
         &self,
         tokens: &mut Tokens<'_, 'a>,

@@ -1,7 +1,11 @@
 // SPDX-License-Identifier: Apache-2.0
-ghost use Rattle.std.specs.Prelude.{◌≡◌, ◌<◌, ◌≤◌, length, OnOk};
+ghost use Rattle.std.specs.Prelude.{◌≡◌, ◌<◌, ◌≤◌, length, not, IfOk, OnOk};
+ghost use Rattle.std.specs.BTreeMap.{insert_entry};
+ghost use Rattle.cedar_data.specs.Sets.{Adds};
+ghost use Rattle.cedar_text.specs.Words.{has_word};
+ghost use Rattle.cedar_names.specs.Annotating.{annotation_entries, any_cmp};
 ghost use Rattle.cedar_names.specs.Identifiers.{any_word};
-ghost use Rattle.cedar_grammar.specs.Grammar.{is_new_key, text_where};
+ghost use Rattle.cedar_grammar.specs.Grammar.{annotation_of, is_new_key, keys_of, text_where};
 ghost use Rattle.cedar_grammar.specs.Meanings.{annotations_tree, node_of};
 ghost use Rattle.cedar_grammar.specs.Reading.{annotation_behind, annots_at, expect, value_at};
 ghost use Rattle.cedar_grammar.specs.Trees.{Annotations as Written};
@@ -10,9 +14,17 @@ ghost use Rattle.cedar_parser.specs.Keys.{HaveKeys, annotation_node};
 
 use crate::fault::{Fault, stops_before};
 use crate::tokens::{Parser, Tokens};
-use cedar_data::{Dup, Out, Set, Text};
+use cedar_data::{Dup, Mem, Out, Set, Text};
 use cedar_names::{Annotation, Annotations, AnyId, Node};
 use cedar_tokens::{Lexeme, TokenKind};
+
+/// Whether a key is none of these.
+fn is_new(keys: &Set<AnyId>, key: &AnyId) -> bool
+    ensures { (before : Written) → HaveKeys keys.now before
+        → result ≡ not (has_word (keys_of before) (any_word key.now)) }
+{
+    !keys.contains(key)
+}
 
 impl<'s> Parser<'s> {
     /// Takes annotations, as many as there are, whose keys are all different.
@@ -25,11 +37,27 @@ impl<'s> Parser<'s> {
         let mut keys = Set::new(self.alloc);
         'annotations: while let Some(at) = self.accept_mark(tokens, "@") {
             let (key, annotation) = self.annotation(tokens, &keys, at)?;
-            let copy = key.dup(self.alloc)?;
-            keys.insert(copy)?;
-            found.insert(key, annotation)?;
+            self.note(&mut keys, &mut found, key, annotation)?;
         }
         Ok(found)
+    }
+
+    /// Puts an annotation to those that were found, and its key to their keys.
+    fn note(
+        &self,
+        keys: &mut Set<AnyId>,
+        found: &mut Annotations,
+        key: AnyId,
+        annotation: Annotation,
+    ) -> Mem<()>
+        ensures keys { OnOk result (Adds any_cmp keys.old keys.new key) }
+        ensures found { OnOk result (annotation_entries found.new
+            ≡ insert_entry any_cmp (annotation_entries found.old) key annotation) }
+    {
+        let copy = key.dup(self.alloc)?;
+        keys.insert(copy)?;
+        found.insert(key, annotation)?;
+        Ok(())
     }
 
     /// Takes what follows the `@` of an annotation, whose key is to be none of these.
@@ -45,26 +73,30 @@ impl<'s> Parser<'s> {
             (annotation_behind before (lexeme_node self.now.source.now at.entry) (tokens_of self.now.source.now tokens.old.rest.now)) }
         ensures shorter { OnOk result (length tokens.new.rest.now < length tokens.old.rest.now) }
     {
-        let Node { node: key, loc } = self.key(tokens, keys)?;
-        let Some(value) = self.annotation_value(tokens)? else {
+        let key = self.key(tokens, keys)?;
+        let value = self.annotation_value(tokens)?;
+        Ok(self.annotation_of(at, key, value)?)
+    }
+
+    /// The annotation of this key that begins here, whose value is empty where none was read.
+    fn annotation_of(
+        &self,
+        at: Lexeme<'_>,
+        key: Node<AnyId>,
+        value: Option<Node<Node<Text>>>,
+    ) -> Mem<(AnyId, Annotation)>
+        ensures { IfOk result (λ annotation. annotation_node annotation
+            ≡ annotation_of (lexeme_node self.now.source.now at.entry).loc (node_of any_word key) value) }
+    {
+        let Node { node: key, loc } = key;
+        let Some(Node { node: literal, loc }) = value else {
             let val = Text::new(self.alloc, "")?;
-            let loc = self.place(at.start, loc.end)?;
-            return Ok((
-                key,
-                Annotation {
-                    val,
-                    loc: Some(loc),
-                },
-            ));
+            let loc = Some(self.place(at.start, loc.end)?);
+            return Ok((key, Annotation { val, loc }));
         };
-        let loc = self.place(at.start, value.loc.end)?;
-        Ok((
-            key,
-            Annotation {
-                val: value.node.node,
-                loc: Some(loc),
-            },
-        ))
+        let val = literal.node;
+        let loc = Some(self.place(at.start, loc.end)?);
+        Ok((key, Annotation { val, loc }))
     }
 
     /// Takes the key of an annotation: a word that is none of these keys.
@@ -82,7 +114,7 @@ impl<'s> Parser<'s> {
         let Some(node) = AnyId::new(self.alloc, rest[0].text)? else {
             return Err(stops_before(rest));
         };
-        if keys.contains(&node) {
+        if !is_new(keys, &node) {
             return Err(stops_before(rest));
         }
         let loc = self.place(rest[0].start, rest[0].end)?;

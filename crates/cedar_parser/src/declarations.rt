@@ -1,10 +1,10 @@
 // SPDX-License-Identifier: Apache-2.0
-ghost use Rattle.std.specs.Prelude.{◌≡◌, ℕ, ◌<◌, [], length, IfOk, OnOk};
+ghost use Rattle.std.specs.Prelude.{◌≡◌, ℕ, ◌<◌, [], length, map, Some, IfOk, OnOk};
 ghost use Rattle.cedar_grammar.specs.Grammar.{alone};
 ghost use Rattle.cedar_grammar.specs.Meanings.{node_of, path_tree, decl_tree, annotations_tree, annotated_tree, namespace_tree, schema_tree};
 ghost use Rattle.cedar_grammar.specs.Reading.{type_behind, decl_at, annotated_at, namespace_behind, item_at, schema_at, type_at};
 ghost use Rattle.cedar_parser.specs.Behind.{decls_behind, annotated_item};
-ghost use Rattle.cedar_parser.specs.Giving.{Gives, tokens_of, lexeme_node};
+ghost use Rattle.cedar_parser.specs.Giving.{Gives, tokens_of, lexeme_node, place_from};
 
 use crate::fault::Fault;
 use crate::tokens::{Parser, Tokens};
@@ -68,6 +68,24 @@ impl<'s> Parser<'s> {
         Ok(Annotated { item, annotations })
     }
 
+    /// The namespace of this name with these declarations, from its word to its `}`.
+    fn namespace_of(
+        &self,
+        keyword: Lexeme<'_>,
+        name: Path,
+        decls: Items<Annotated<Node<Declaration>>>,
+        closing: Lexeme<'_>,
+    ) -> Mem<Namespace>
+        ensures { IfOk result (λ namespace. namespace_tree namespace ≡ record {
+            name = Some (path_tree name);
+            decls = map (annotated_tree (node_of decl_tree)) decls;
+            loc = Some (place_from self.now.source.now keyword.entry.start closing.entry.end) }) }
+    {
+        let loc = Some(self.place(keyword.start, closing.end)?);
+        let name = Some(name);
+        Ok(Namespace { name, decls, loc })
+    }
+
     /// Takes the declarations of a namespace, behind `{`, and `}`.
     #[tactic(auto, unfolding(crate::specs::Behind::decls_behind))]
     fn namespace_body<'a>(
@@ -83,9 +101,7 @@ impl<'s> Parser<'s> {
         let mut decls = Items::new(self.alloc);
         'decls: loop {
             if let Some(closing) = self.accept_mark(tokens, "}") {
-                let loc = Some(self.place(keyword.start, closing.end)?);
-                let name = Some(name);
-                return Ok(Namespace { name, decls, loc });
+                return Ok(self.namespace_of(keyword, name, decls, closing)?);
             }
             let decl = self.annotated_declaration(tokens)?;
             decls.push(decl)?;

@@ -1,10 +1,11 @@
 // SPDX-License-Identifier: Apache-2.0
-ghost use Rattle.std.specs.Prelude.{◌≡◌, ◌<◌, ◌≤◌, [], length, OnOk};
+ghost use Rattle.std.specs.Prelude.{◌≡◌, ◌<◌, ◌≤◌, [], length, Some, IfOk, OnOk};
 ghost use Rattle.cedar_names.specs.Identifiers.{id_word};
 ghost use Rattle.cedar_grammar.specs.Meanings.{node_of, path_tree, qual_tree};
 ghost use Rattle.cedar_grammar.specs.Reading.{path_behind, path_at, ref_behind, ref_at};
-ghost use Rattle.cedar_grammar.specs.Grammar.{path_of};
+ghost use Rattle.cedar_grammar.specs.Grammar.{path_of, qualified};
 ghost use Rattle.cedar_parser.specs.Giving.{Gives, tokens_of};
+ghost use Rattle.cedar_parser.specs.Ids.{ids_path};
 ghost use Rattle.cedar_parser.specs.Longer.{longer, qualified_at};
 
 use crate::fault::Fault;
@@ -24,8 +25,6 @@ struct Ids {
 }
 
 impl Ids {
-    ghost use Rattle.cedar_parser.specs.Ids.{ids_path};
-
     /// A path of one identifier.
     fn of(alloc: Global, id: Node<Id>) -> Ids
         ensures { ids_path result ≡ path_of (node_of id_word id) [] }
@@ -109,6 +108,19 @@ impl<'s> Parser<'s> {
         self.qualified(tokens, first)
     }
 
+    /// The reference to this id under the path of these identifiers.
+    fn reference_of(&self, ids: Ids, eid: Node<Text>) -> Mem<Node<QualName>>
+        ensures { IfOk result (λ reference. node_of qual_tree reference
+            ≡ qualified (Some (ids_path ids)) eid ids.loc) }
+    {
+        let loc = self.between(&ids.loc, &eid.loc)?;
+        let path = ids.into_path();
+        Ok(Node {
+            node: QualName::qualified(path, eid.node),
+            loc,
+        })
+    }
+
     /// Takes the rest of a reference that begins with this identifier and a `::`.
     fn qualified(&self, tokens: &mut Tokens<'_, '_>, first: Node<Id>) -> Out<Node<QualName>, Fault>
         ensures read { Gives (node_of qual_tree) (tokens_of self.now.source.now tokens.new.rest.now) result
@@ -118,12 +130,7 @@ impl<'s> Parser<'s> {
         let mut ids = Ids::of(self.alloc, first);
         'ids: loop {
             if let Some(eid) = self.accept_literal(tokens)? {
-                let loc = self.between(&ids.loc, &eid.loc)?;
-                let path = ids.into_path();
-                return Ok(Node {
-                    node: QualName::qualified(path, eid.node),
-                    loc,
-                });
+                return Ok(self.reference_of(ids, eid)?);
             }
             let id = self.ident(tokens)?;
             self.expect_mark(tokens, "::")?;

@@ -1,8 +1,7 @@
 -- SPDX-License-Identifier: Apache-2.0
-use Rattle.std.proofs.Common.{arith, subst}
+use Rattle.std.proofs.Common.{arith}
 use Rattle.std.proofs.lemmas.Result.{err_from_is_err_and}
-use Rattle.cedar_data.specs.Sets.{Adds}
-use Rattle.cedar_names.specs.Annotating.{annotation_entries, any_cmp}
+use Rattle.cedar_names.specs.Annotating.{annotation_entries}
 use Rattle.cedar_parser.specs.Giving.{tokens_of}
 use Rattle.cedar_parser.proofs.Noting.{noted_start, noted_fault, noted_end, noted_more}
 use Rattle.cedar_parser.proofs.Faults.{fault_along, fewer_tokens}
@@ -24,11 +23,10 @@ pub annotations-preserved : goal.annotations-preserved
 annotations-preserved c =
     let text = c.args.self.now.source.now in
     let noted = c.annotations.invariant.is in
-    let adds = subst (Adds any_cmp c.annotations.keys c.insert.new.self) c.in_ok-copy.ensures c.in_ok-insert.ensures.adds in
     record {
       fewer = omega (arith, c.in_ok-key.ensures.shorter, c.in-Some.ensures.shorter, c.annotations.invariant.fewer);
       is = noted_more _ c.annotations.keys _ (annotation_entries c.annotations.found) _ (tokens_of text c.annotations.tokens.rest.now) _ _ c.in_ok-key.key c.in_ok-key.annotation _ noted
-          (fewer_tokens text _ _ (omega (arith, c.in_ok-key.ensures.shorter, c.in-Some.ensures.shorter))) c.in-Some.ensures.read (c.in_ok-key.ensures.read noted.before noted.have) adds c.in_ok-insert-2.ensures.ok;
+          (fewer_tokens text _ _ (omega (arith, c.in_ok-key.ensures.shorter, c.in-Some.ensures.shorter))) c.in-Some.ensures.read (c.in_ok-key.ensures.read noted.before noted.have) c.in_ok-note.ensures.keys c.in_ok-note.ensures.found;
     }
 
 pub returns-clause-read : goal.returns-clause-read

@@ -22,7 +22,7 @@ returns-in-Some-clause-read c n enough =
     let text = c.args.self.now.source.now in
     let start = tokens_of text c.args.tokens.now.rest.now in
     let here = tokens_of text c.decls.tokens.rest.now in
-    rw c.in_ok-place.ensures
+    rw c.in_ok-namespace_of.ensures
     (decls_end (type_at n) start _ here (c.decls.invariant.is n enough) (lexeme_node text c.args.keyword) (path_tree c.args.name) _ _ c.in-Some.ensures.read)
 
 pub returns-in_err-decl-clause-read : goal.returns-in_err-decl-clause-read

@@ -15,7 +15,7 @@ ids-init c = rw c.of-ids.ensures record { fewer = omega arith; is = reference_st
 pub returns-in-Some-clause-read : goal.returns-in-Some-clause-read
 returns-in-Some-clause-read c =
     let literal = rw c.in-Some.is at c.in_ok-eid.ensures in
-    rw (c.qualified.ensures.path, c.qualified.ensures.eid, c.into_path-path.ensures, c.in_ok-loc.ensures)
+    rw c.in_ok-reference_of.ensures
     (reference_end (node_of id_word c.args.first) _ (ids_path c.ids.ids) (tokens_of c.args.self.now.source.now c.ids.tokens.rest.now) _ _ c.ids.invariant.is literal.read)
 
 pub returns-in_err-id-clause-read : goal.returns-in_err-id-clause-read
