@@ -1,0 +1,35 @@
+// SPDX-License-Identifier: Apache-2.0
+use crate::refusals::{refusal, told};
+use cedar_data::Mem;
+use cedar_names::EntityUID;
+use cedar_text::{quote_place, read_literal};
+use std::alloc::Global;
+
+/// `uid`: the entity that the input writes, its type and its id; or why it is refused.
+pub fn uid(alloc: Global, _words: &[&str], input: &str) -> Mem<String> {
+    match EntityUID::from_normalized_str(alloc, input) {
+        Ok(uid) => uid_told(alloc, &uid),
+        Err(failure) => {
+            let refusal = refusal(alloc, failure)?;
+            Ok(format!(in alloc; "{refusal}\n")?)
+        }
+    }
+}
+
+fn uid_told(alloc: Global, uid: &EntityUID) -> Mem<String> {
+    let ty = uid.entity_type();
+    let eid = uid.eid().as_str();
+    let place = if uid.loc().is_some() { "placed\n" } else { "" };
+    Ok(format!(in alloc; "{uid}\ntype {ty}\nid {eid}\n{place}")?)
+}
+
+/// `literal`: what the literal stands for that begins at the first quote of the input; or why it is refused.
+pub fn literal(alloc: Global, _words: &[&str], input: &str) -> Mem<String> {
+    let (front, quoted) = input.split_at(quote_place(input));
+    if quoted.is_empty() {
+        return Ok(format!(in alloc; "no quote\n")?);
+    }
+    let inner = quoted.split_at(1).1;
+    let told = told(alloc, read_literal(alloc, front.len() + 1, inner))?;
+    Ok(format!(in alloc; "{told}\n")?)
+}
