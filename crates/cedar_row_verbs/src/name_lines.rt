@@ -1,10 +1,9 @@
 // SPDX-License-Identifier: Apache-2.0
 use crate::lists::two_lines;
 use crate::name_kinds::{Kind, internal_told};
-use crate::refusals::refusal;
-use cedar_data::{Mem, Out};
+use crate::refusals::{refusal, refusal_line};
+use cedar_data::Mem;
 use cedar_names::{InternalName, Name};
-use cedar_text::NameFault;
 use std::alloc::Global;
 use std::cmp::Ordering;
 
@@ -72,11 +71,16 @@ fn within_name(alloc: Global, name: InternalName, outer: Option<&Name>) -> Mem<S
 /// `order`: how the names on two lines are ordered, and whether they are equal.
 pub fn order(alloc: Global, _words: &[&str], input: &str) -> Mem<String> {
     let (left, right) = two_lines(input);
-    let left = InternalName::from_normalized_str(alloc, left);
-    let right = InternalName::from_normalized_str(alloc, right);
-    match (left, right) {
-        (Ok(left), Ok(right)) => order_told(alloc, &left, &right),
-        (Err(failure), _) | (Ok(_), Err(failure)) => refusal(alloc, failure),
+    match InternalName::from_normalized_str(alloc, left) {
+        Ok(left) => order_with(alloc, &left, right),
+        Err(failure) => refusal_line(alloc, failure),
+    }
+}
+
+fn order_with(alloc: Global, left: &InternalName, right: &str) -> Mem<String> {
+    match InternalName::from_normalized_str(alloc, right) {
+        Ok(right) => order_told(alloc, left, &right),
+        Err(failure) => refusal_line(alloc, failure),
     }
 }
 

@@ -20,8 +20,14 @@ pub fn refusal(alloc: Global, failure: Failure<NameFault>) -> Mem<String> {
     }
 }
 
+/// The line of such a refusal.
+pub fn refusal_line(alloc: Global, failure: Failure<NameFault>) -> Mem<String> {
+    let refusal = refusal(alloc, failure)?;
+    Ok(format!(in alloc; "{refusal}\n")?)
+}
+
 /// A fault, with its place where it has one.
-pub fn fault_told(alloc: Global, fault: &NameFault) -> Mem<String> {
+fn fault_told(alloc: Global, fault: &NameFault) -> Mem<String> {
     match fault {
         NameFault::BadToken { at, token: _ } => Ok(format!(in alloc; "refused at {at}: {fault}")?),
         NameFault::Empty | NameFault::Reserved { word: _ } => {
