@@ -8,24 +8,27 @@ use cedar_data::{Mem, Set, SetIter};
 use cedar_types::{TcKey, TcNode};
 use std::alloc::Global;
 
-/// A node with a color.
-#[derive(Debug, Drop, PartialEq, Eq)]
+/// A node, with the number of the line that it stands on.
+#[derive(Drop)]
 pub struct Vertex<K: Ord> {
     key: K,
     edges: Set<K>,
-    color: u32,
+    line: usize,
 }
 
 impl<K: Ord> Vertex<K> {
     /// A node with no edge.
-    pub fn new(alloc: Global, key: K, color: u32) -> Vertex<K>
-        ensures { result ≡ record { key = key; edges = []; color = color } }
-    {
+    pub fn new(alloc: Global, key: K, line: usize) -> Vertex<K> {
         Vertex {
             key,
             edges: Set::new(alloc),
-            color,
+            line,
         }
+    }
+
+    /// The number of the line that it stands on.
+    pub fn line(&self) -> usize {
+        self.line
     }
 }
 
@@ -53,5 +56,5 @@ impl<K: TcKey> TcNode<K> for Vertex<K> {
         self.edges.iter()
     }
 
-    ghost whole = { λ a b same_key same_edges same_rest i. record { key = same_key i; edges = same_edges i; color = (same_rest i).color } };
+    ghost whole = { λ a b same_key same_edges same_rest i. record { key = same_key i; edges = same_edges i; line = (same_rest i).line } };
 }
