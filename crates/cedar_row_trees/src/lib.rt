@@ -4,24 +4,24 @@
 #![tactic(auto)]
 
 mod annotating;
-mod each;
-mod errors;
+mod each_word;
+mod error_lines;
 mod lexing;
 mod lines;
-mod names;
+mod declared_names;
 mod paths;
 mod pieces;
 mod telling;
-mod tree;
+mod schema_pieces;
 mod types;
 
 pub use annotating::annotations;
 use cedar_data::Mem;
-pub use each::each;
-pub use errors::errors;
+pub use each_word::each;
+pub use error_lines::errors;
 pub use lexing::syntax_tokens;
 pub use lines::Lines;
-pub use names::names;
+pub use declared_names::names;
 pub use paths::path;
 use std::alloc::Global;
 pub use telling::{tell, tree};

@@ -1,6 +1,6 @@
 // SPDX-License-Identifier: Apache-2.0
 use crate::lines::Lines;
-use crate::tree::add_schema;
+use crate::schema_pieces::add_schema;
 use cedar_data::{Failure, Mem, NoMemory};
 use cedar_syntax::{ParseErrorKind, ParseErrors, UserError, parse_schema};
 use std::alloc::Global;
@@ -26,7 +26,7 @@ pub fn tree(alloc: Global, input: &str) -> Mem<String> {
 /// What is said of a text: that it is a schema, or why it is none, with the place.
 pub fn told(alloc: Global, text: &str) -> Mem<String> {
     match parse_schema(alloc, text) {
-        Ok(_) => Ok(String::from_str(alloc, "a schema")?),
+        Ok(_schema) => Ok(String::from_str(alloc, "a schema")?),
         Err(Failure::Refused(errors)) => refusal_told(alloc, errors),
         Err(Failure::NoMemory) => Err(NoMemory),
     }

@@ -7,11 +7,11 @@ use cedar_syntax::{Schema, parse_schema};
 use std::alloc::Global;
 
 /// The plain declarations of a text, or what it is where it has none.
-pub fn plain(alloc: Global, input: &str) -> Mem<String> {
+pub fn declarations(alloc: Global, input: &str) -> Mem<String> {
     let mut lines = Lines::new(alloc);
     match parse_schema(alloc, input) {
         Ok(schema) => add_schema(&mut lines, &schema)?,
-        Err(Failure::Refused(_)) => lines.add("no schema")?,
+        Err(Failure::Refused(_errors)) => lines.add("no schema")?,
         Err(Failure::NoMemory) => return Err(NoMemory),
     }
     Ok(lines.into_text())
@@ -25,7 +25,7 @@ fn add_schema(lines: &mut Lines, schema: &Schema) -> Mem<()> {
             }
             Ok(())
         }
-        Err(Failure::Refused(_)) => lines.add("not plain"),
+        Err(Failure::Refused(_errors)) => lines.add("not plain"),
         Err(Failure::NoMemory) => Err(NoMemory),
     }
 }

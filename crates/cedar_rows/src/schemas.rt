@@ -9,7 +9,7 @@ use std::alloc::Global;
 /// What a verb on schemas answers to an input; none where there is no such verb.
 pub fn answer(alloc: Global, verb: &str, input: &str) -> Mem<Option<String>> {
     let lines = match verb {
-        "plain" => plain::plain(alloc, input)?,
+        "plain" => plain::declarations(alloc, input)?,
         "schema-error" => schema_error(alloc, input)?,
         _ => return Ok(None),
     };
@@ -21,7 +21,7 @@ fn schema_error(alloc: Global, input: &str) -> Mem<String> {
     let mut lines = Lines::new(alloc);
     let extensions = Extensions::all_available(alloc)?;
     match ValidatorSchema::from_cedarschema_str(alloc, input, &extensions) {
-        Ok(_) => lines.add("a schema")?,
+        Ok(_schema) => lines.add("a schema")?,
         Err(Failure::Refused(error)) => add_error(&mut lines, &error)?,
         Err(Failure::NoMemory) => return Err(NoMemory),
     }

@@ -84,10 +84,10 @@ fn said(alloc: Global, cut: &Answer, whole: &Answer, before: u64) -> Mem<String>
 
 /// How bytes that were written compare with the whole: `cut` are its first bytes, as many as the calls before move.
 fn written(cut: &[u8], whole: &[u8], before: u64) -> &'static str {
-    if cut == whole {
-        "whole"
-    } else if cut.is_empty() {
+    if cut.is_empty() {
         "none"
+    } else if cut == whole {
+        "whole"
     } else if !whole.starts_with(cut) {
         "other"
     } else if u64::try_from(cut.len()).unwrap_or(u64::MAX) == before {

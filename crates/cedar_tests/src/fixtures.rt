@@ -33,7 +33,7 @@ pub fn is_copied<T: Dup + Debug + PartialEq + Drop>(alloc: Global, value: &T) ->
 pub fn parsed(alloc: Global, text: &str) -> Result<Schema, Fail> {
     match parse_schema(alloc, text) {
         Ok(schema) => Ok(schema),
-        Err(Failure::Refused(_)) => Err("refused".into()),
+        Err(Failure::Refused(_errors)) => Err("refused".into()),
         Err(Failure::NoMemory) => Err(NoMemory.into()),
     }
 }

@@ -61,7 +61,7 @@ fn are_put_together(rt: HostRuntime) -> Result<(), Fail> {
 /// The errors of a text that is no schema.
 fn errors_of(alloc: Global, text: &str) -> Result<ParseErrors, Fail> {
     match parse_schema(alloc, text) {
-        Ok(_) => Err("a schema".into()),
+        Ok(_schema) => Err("a schema".into()),
         Err(Failure::Refused(errors)) => Ok(errors),
         Err(Failure::NoMemory) => Err(NoMemory.into()),
     }

@@ -10,7 +10,7 @@ fn plain_of(alloc: Global, text: &str) -> Result<Vec<PlainDecl>, Fail> {
     let schema = parsed(alloc, text)?;
     match plain_declarations(alloc, &schema) {
         Ok(decls) => Ok(decls),
-        Err(Failure::Refused(_)) => Err("not plain".into()),
+        Err(Failure::Refused(_errors)) => Err("not plain".into()),
         Err(Failure::NoMemory) => Err(NoMemory.into()),
     }
 }

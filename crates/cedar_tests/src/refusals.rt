@@ -10,7 +10,7 @@ use std::test::Fail;
 fn refusal_of(alloc: Global, text: &str) -> Result<CedarSchemaError, Fail> {
     let extensions = Extensions::none(alloc);
     match ValidatorSchema::from_cedarschema_str(alloc, text, &extensions) {
-        Ok(_) => Err("a schema".into()),
+        Ok(_schema) => Err("a schema".into()),
         Err(Failure::Refused(error)) => Ok(error),
         Err(Failure::NoMemory) => Err(NoMemory.into()),
     }

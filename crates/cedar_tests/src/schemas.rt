@@ -11,7 +11,7 @@ use std::test::Fail;
 pub fn entity(alloc: Global, word: &str) -> Result<EntityType, Fail> {
     match UnreservedId::from_normalized_str(alloc, word) {
         Ok(id) => Ok(EntityType::from_name(Name::unqualified_name(alloc, id))),
-        Err(Failure::Refused(_)) => Err("no identifier".into()),
+        Err(Failure::Refused(_errors)) => Err("no identifier".into()),
         Err(Failure::NoMemory) => Err(NoMemory.into()),
     }
 }
@@ -21,7 +21,7 @@ fn resolved(alloc: Global, text: &str) -> Result<ValidatorSchema, Fail> {
     let extensions = Extensions::all_available(alloc)?;
     match ValidatorSchema::from_cedarschema_str(alloc, text, &extensions) {
         Ok(schema) => Ok(schema),
-        Err(Failure::Refused(_)) => Err("refused".into()),
+        Err(Failure::Refused(_errors)) => Err("refused".into()),
         Err(Failure::NoMemory) => Err(NoMemory.into()),
     }
 }

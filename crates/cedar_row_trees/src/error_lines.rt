@@ -8,7 +8,7 @@ use std::alloc::Global;
 pub fn errors(alloc: Global, input: &str) -> Mem<String> {
     let mut lines = Lines::new(alloc);
     match parse_schema(alloc, input) {
-        Ok(_) => lines.add("a schema")?,
+        Ok(_schema) => lines.add("a schema")?,
         Err(Failure::Refused(errors)) => add_errors(&mut lines, input, &errors)?,
         Err(Failure::NoMemory) => return Err(NoMemory),
     }
