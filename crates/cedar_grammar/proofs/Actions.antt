@@ -4,7 +4,7 @@ use Rattle.std.proofs.Common.{◌≡◌, ℕ, Bool, true, false, List, Option, S
 use Rattle.cedar_tokens.specs.Lexemes.{TextToken}
 use Rattle.cedar_tokens.specs.declared.token.TokenKind.TheVariants as kind
 use Rattle.cedar_grammar.specs.Productions.{Production, gives, ◌>>=◌, ◌>>◌, ◌∣◌, optional, maybe}
-use Rattle.cedar_grammar.specs.Trees.{Node, placed, stands, Text, TypeTree, PR, Principal, Resource, Named, Shape, AppDecl, Types, Context, QualName, Declaration, Action}
+use Rattle.cedar_tree.specs.Trees.{Node, placed, stands, Text, TypeTree, PR, Principal, Resource, Named, Shape, AppDecl, Types, Context, QualName, Declaration, Action}
 use Rattle.cedar_grammar.specs.Grammar.{is_keyword, is_mark_token, keyword, mark, name, ident, names, path, types, refs, pr, app_decl, applies_to, attributes_tail}
 use Rattle.cedar_grammar.specs.Reading.{Reader, done, expect, a_keyword, a_mark, name_at, commas_at, path_at, types_at, one_or_list_at, ref_at, above_at, record_behind, braced_at, scope_behind, context_behind, app_at, applies_at, tail_at, action_behind}
 use Rattle.cedar_grammar.proofs.Agreement.{optional_agrees, maybe_agrees}

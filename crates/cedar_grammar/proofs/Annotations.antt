@@ -3,7 +3,7 @@
 use Rattle.std.proofs.Common.{◌≡◌, ℕ, zero, suc, Bool, false, ◌||◌, [], ◌∷◌, ◌++◌, Option, Some, None, codes, length, ap, ◌∙◌, subst, refl, inl, inr, arith}
 use Rattle.cedar_tokens.specs.Lexemes.{TextToken}
 use Rattle.cedar_grammar.specs.Productions.{Production, class, gives, ◌>>=◌, ◌∣◌, ReadsEach, none_yet, then_one, maybe}
-use Rattle.cedar_grammar.specs.Trees.{Node, Text, Annotation, Annotations, ByKey, by_key, placed}
+use Rattle.cedar_tree.specs.Trees.{Node, Text, Annotation, Annotations, ByKey, by_key, placed}
 use Rattle.cedar_grammar.specs.Grammar.{text_where, is_mark_token, literal_value, mark, str, bracketed, annotation_of, keys_of, is_new_key, annotation, annots, annotated}
 use Rattle.cedar_grammar.specs.Reading.{Reader, done, expect, a_mark, value_at, annotation_behind, annots_from, annots_at, annotated_at}
 use Rattle.cedar_grammar.proofs.Agreement.{Agrees, gives_agrees, either_agrees, then_agrees, maybe_agrees}

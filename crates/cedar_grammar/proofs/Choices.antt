@@ -5,7 +5,7 @@ use Rattle.cedar_tokens.specs.Lexemes.{TextToken}
 use Rattle.cedar_tokens.specs.declared.token.TokenKind.{TokenKind}
 use Rattle.cedar_tokens.specs.declared.token.TokenKind.TheVariants as kind
 use Rattle.cedar_grammar.specs.Productions.{Production, gives, ◌>>=◌, ◌>>◌, ◌∣◌, maybe}
-use Rattle.cedar_grammar.specs.Trees.{Node}
+use Rattle.cedar_tree.specs.Trees.{Node}
 use Rattle.cedar_grammar.specs.Grammar.{text_where, is_keyword, is_mark_token, keyword, mark}
 use Rattle.cedar_grammar.specs.Reading.{Reader, done, a_keyword, above_at}
 use Rattle.cedar_grammar.proofs.Agreement.{Agrees, gives_agrees, then_agrees, either_agrees}

@@ -4,64 +4,70 @@ use Rattle.std.proofs.Common.{ℕ, Bool, true, false, ◌||◌, List, Option, So
 use Rattle.cedar_tokens.specs.Lexemes.{TextToken}
 use Rattle.cedar_tokens.specs.declared.token.TokenKind.TheVariants as kind
 use Rattle.cedar_grammar.specs.Productions.{Production, gives, ◌>>=◌, ◌>>◌, ◌∣◌, optional, maybe}
-use Rattle.cedar_grammar.specs.Trees.{Node, Place, placed, Text, Path, Attrs, TypeTree, Standard, Enum, Declaration, Entity}
-use Rattle.cedar_grammar.specs.Grammar.{is_keyword, is_mark_token, literal_value, keyword, mark, str, ident, idents, types, commas, bracketed, record_type, tags_clause, behind_record, shape_at}
-use Rattle.cedar_grammar.specs.Reading.{Reader, done, expect, on_next, a_keyword, a_mark, an_ident, commas_at, types_at, above_at, shape_reader, tags_at, record_behind, standard_behind, enum_behind, entity_behind}
-use Rattle.cedar_grammar.proofs.Agreement.{Agrees, gives_agrees, then_agrees, either_agrees, optional_agrees, maybe_agrees}
-use Rattle.cedar_grammar.proofs.Viability.{keyword_agrees, mark_agrees, str_agrees, ident_agrees, commas_agree, bracketed_agrees, record_agrees, tags_agree}
+use Rattle.cedar_tree.specs.Trees.{Node, Place, placed, Text, Path, TypeTree, ContextDecl, Named, Shape, Standard, Enum, Declaration, Entity}
+use Rattle.cedar_grammar.specs.Grammar.{is_keyword, is_mark_token, literal_value, keyword, mark, str, ident, idents, path, types, commas, bracketed, shape_decl, tags_clause, behind_shape, shape_at}
+use Rattle.cedar_grammar.specs.Reading.{Reader, done, expect, on_next, a_keyword, a_mark, an_ident, commas_at, path_at, types_at, above_at, record_or_path, shape_reader, tags_at, record_behind, standard_behind, enum_behind, entity_behind}
+use Rattle.cedar_grammar.proofs.Agreement.{Agrees, gives_agrees, then_agrees, either_agrees, maybe_agrees}
+use Rattle.cedar_grammar.proofs.Viability.{keyword_agrees, mark_agrees, str_agrees, ident_agrees, commas_agree, bracketed_agrees, shape_agrees, tags_agree}
 use Rattle.cedar_grammar.proofs.Readers.{Tokens, never, takes, Right, Opens, Sub, bind, then_starts, starts_open, either_opens, then_opens, never_opens, then_right, map_right, done_right, on_next_same, expect_right, stops_right, same_right}
-use Rattle.cedar_grammar.proofs.Lists.{left_false, right_false, gives_not_taken, mark_done, or_comma, commas_right}
+use Rattle.cedar_grammar.proofs.Lists.{left_false, right_false, not_taken_starts, gives_not_taken, mark_done, or_comma, commas_right}
 use Rattle.cedar_grammar.proofs.Choices.{Misses, keyword_starts, the_mark_starts, or_nothing_opens, maybe_opens, or_in, Above, above_opens, above_right}
-use Rattle.cedar_grammar.proofs.Names.{is_colons, types_right}
+use Rattle.cedar_grammar.proofs.Names.{is_colons, path_starts, path_right, ident_starts, types_right}
 use Rattle.cedar_grammar.proofs.Types.{InBraces, record_right, type_goes, no_type_goes}
 
--- `=` or `{`
+-- `=` or `{`, or `::`, with which a name would go on
 abbrev pub opens_shape : TextToken → Bool
-opens_shape t = is_mark_token (codes "=") t || is_mark_token (codes "{") t
+opens_shape t = (is_mark_token (codes "=") t || is_mark_token (codes "{") t) || is_colons t
 
 -- `tags`, or what goes on with a type
 abbrev pub or_tags : TextToken → Bool
 or_tags t = is_keyword (codes "tags") t || type_goes t
 
 module _ (type : Production TextToken (Node TypeTree)) where
-  -- [['='] Record]
-  abbrev pub Shape : Production TextToken (Option (Node Attrs))
-  Shape = maybe (optional (mark (codes "=")) >> record_type type)
+  -- [['='] Record | '=' Path]
+  abbrev pub ShapePart : Production TextToken (Option ContextDecl)
+  ShapePart = maybe (shape_decl type)
 
-  -- a record that must stand here
-  abbrev Wanted : Production TextToken (Option (Node Attrs))
-  Wanted = mark (codes "{") >>= λ opening. InBraces type opening >>= λ r. gives (Some r)
+  -- a record or a name that must stand here
+  abbrev Wanted : Production TextToken ContextDecl
+  Wanted = (mark (codes "{") >>= λ opening. InBraces type opening >>= λ r. gives (Shape r)) ∣ (path >>= λ p. gives (Named p))
+
+  -- a record
+  abbrev RecordPart : Production TextToken (Option ContextDecl)
+  RecordPart = mark (codes "{") >>= λ opening. InBraces type opening >>= λ r. gives (Some (Shape r))
 
   -- the same by the next token
-  abbrev ShapeChoice : Production TextToken (Option (Node Attrs))
-  ShapeChoice = (mark (codes "=") >>= λ _. Wanted) ∣ (Wanted ∣ gives None)
+  abbrev ShapeChoice : Production TextToken (Option ContextDecl)
+  ShapeChoice = (mark (codes "=") >>= λ _. Wanted >>= λ shape. gives (Some shape)) ∣ (RecordPart ∣ gives None)
 
   -- both ways to put it read the same
-  shape_there : Sub ShapeChoice Shape
-  shape_there ts v rest (inl (e, mid, re, (o, left, ro, (r, end, rr, same)))) = inl (r, end, (true, mid, inl (e, mid, re, (refl, refl)), (o, left, ro, rr)), same)
-  shape_there ts v rest (inr (inl (o, left, ro, (r, end, rr, same)))) = inl (r, end, (false, ts, inr (refl, refl), (o, left, ro, rr)), same)
+  shape_there : Sub ShapeChoice ShapePart
+  shape_there ts v rest (inl (e, mid, re, (shape, end, inl (o, left, ro, (r, end', rr, (is, here))), same))) =
+      inl (shape, end, inl (r, end', (true, mid, inl (e, mid, re, (refl, refl)), (o, left, ro, rr)), (is, here)), same)
+  shape_there ts v rest (inl (e, mid, re, (shape, end, inr (p, end', rp, (is, here)), same))) =
+      inl (shape, end, inr (p, end', (e, mid, re, rp), (is, here)), same)
+  shape_there ts v rest (inr (inl (o, left, ro, (r, end, rr, same)))) =
+      inl (Shape r, end, inl (r, end, (false, ts, inr (refl, refl), (o, left, ro, rr)), (refl, refl)), same)
   shape_there ts v rest (inr (inr same)) = inr same
 
-  shape_back : Sub Shape ShapeChoice
-  shape_back ts v rest (inl (r, end, (b, begin, inl (e, mid, re, (_, here)), (o, left, ro, rr)), same)) =
-      inl (e, mid, re, (o, left, subst (λ (us : Tokens). (mark (codes "{")).reads us o left) here ro, (r, end, rr, same)))
-  shape_back ts v rest (inl (r, end, (b, begin, inr (_, here), (o, left, ro, rr)), same)) =
-      inr (inl (o, left, subst (λ (us : Tokens). (mark (codes "{")).reads us o left) here ro, (r, end, rr, same)))
+  shape_back : Sub ShapePart ShapeChoice
+  shape_back ts v rest (inl (shape, end, inl (r, end', (b, begin, inl (e, mid, re, (_, here)), (o, left, ro, rr)), (is, stop)), same)) =
+      inl (e, mid, re, (shape, end, inl (o, left, subst (λ (us : Tokens). (mark (codes "{")).reads us o left) here ro, (r, end', rr, (is, stop))), same))
+  shape_back ts v rest (inl (shape, end, inl (r, end', (b, begin, inr (_, here), (o, left, ro, rr)), (is, stop)), (same, last))) =
+      inr (inl (o, left, subst (λ (us : Tokens). (mark (codes "{")).reads us o left) here ro, (r, end', rr, (same ∙ ap (λ s. Some s) is, last ∙ stop))))
+  shape_back ts v rest (inl (shape, end, inr (p, end', (e, mid, re, rp), (is, stop)), same)) =
+      inl (e, mid, re, (shape, end, inr (p, end', rp, (is, stop)), same))
   shape_back ts v rest (inr same) = inr (inr same)
 
-  -- beginnings of it are what further tokens complete
-  shape_agrees : Agrees type → Agrees Shape
-  shape_agrees a = maybe_agrees (optional (mark (codes "=")) >> record_type type) (then_agrees (optional (mark (codes "="))) _ (optional_agrees (mark (codes "=")) (mark_agrees (codes "="))) (λ _. record_agrees type a))
-
   -- it begins with none of p where none of p follows and p misses `=` and `{`
-  shape_opens : (p : TextToken → Bool) → Misses p kind.Punct (codes "=") → Misses p kind.Punct (codes "{") → Opens Shape p p
+  shape_opens : (p : TextToken → Bool) → Misses p kind.Punct (codes "=") → Misses p kind.Punct (codes "{") → Opens ShapePart p p
   shape_opens p equals opening = record { opens = λ ts x rest r stop. choice_opens.opens ts x rest (shape_back ts x rest r) stop }
     where
       choice_opens : Opens ShapeChoice p p
       choice_opens =
-          either_opens (mark (codes "=") >>= λ _. Wanted) (Wanted ∣ gives None) p p
-          (starts_open (mark (codes "=") >>= λ _. Wanted) p p (then_starts (mark (codes "=")) _ p (the_mark_starts (codes "=") p equals)))
-          (or_nothing_opens Wanted None p (then_starts (mark (codes "{")) _ p (the_mark_starts (codes "{") p opening)))
+          either_opens (mark (codes "=") >>= λ _. Wanted >>= λ shape. gives (Some shape)) (RecordPart ∣ gives None) p p
+          (starts_open (mark (codes "=") >>= λ _. Wanted >>= λ shape. gives (Some shape)) p p (then_starts (mark (codes "=")) _ p (the_mark_starts (codes "=") p equals)))
+          (or_nothing_opens RecordPart None p (then_starts (mark (codes "{")) _ p (the_mark_starts (codes "{") p opening)))
 
   -- ['tags' Type]
   abbrev pub Tags : Production TextToken (Option (Place × Node TypeTree))
@@ -86,53 +92,67 @@ module _ (type : Production TextToken (Node TypeTree)) where
 
   module _ (entity : Node Text) (ns : List (Node Text)) where
     -- what follows the shape
-    abbrev TagsOn : List Path → Option (Node Attrs) → Production TextToken (Node Declaration)
+    abbrev TagsOn : List Path → Option ContextDecl → Production TextToken (Node Declaration)
     TagsOn parents shape =
         Tags >>= λ tags. mark (codes ";") >>= λ semicolon.
         gives (placed (Entity (Standard (record {
           names = ns;
           member_of_types = parents;
-          attrs = shape_at shape (behind_record tags semicolon.loc);
+          attrs = shape_at shape (behind_shape tags semicolon.loc);
           tags = option_map (λ p. p.1) tags;
         }))) entity.loc semicolon.loc)
 
     -- what follows the parents
     abbrev ShapeOn : List Path → Production TextToken (Node Declaration)
-    ShapeOn parents = Shape >>= TagsOn parents
+    ShapeOn parents = ShapePart >>= TagsOn parents
 
     -- what follows the names of entity types that aren't enumerated
     abbrev pub StandardBehind : Production TextToken (Node Declaration)
     StandardBehind = Above types >>= ShapeOn
 
     -- none of p stands before what follows the shape
-    tags_on_open : (p : TextToken → Bool) → Misses p kind.Word (codes "tags") → Misses p kind.Punct (codes ";") → (parents : List Path) (shape : Option (Node Attrs)) → Opens (TagsOn parents shape) p never
+    tags_on_open : (p : TextToken → Bool) → Misses p kind.Word (codes "tags") → Misses p kind.Punct (codes ";") → (parents : List Path) (shape : Option ContextDecl) → Opens (TagsOn parents shape) p never
     tags_on_open p tags semicolon parents shape =
         then_opens Tags _ p p never (tags_open p tags) (λ _. starts_open _ p never (then_starts (mark (codes ";")) _ p (the_mark_starts (codes ";") p semicolon)))
 
     -- none of p stands before what follows the parents
     shape_on_opens : (p : TextToken → Bool) → Misses p kind.Punct (codes "=") → Misses p kind.Punct (codes "{") → Misses p kind.Word (codes "tags") → Misses p kind.Punct (codes ";") → (parents : List Path) → Opens (ShapeOn parents) p never
-    shape_on_opens p equals opening tags semicolon parents = then_opens Shape _ p p never (shape_opens p equals opening) (tags_on_open p tags semicolon parents)
+    shape_on_opens p equals opening tags semicolon parents = then_opens ShapePart _ p p never (shape_opens p equals opening) (tags_on_open p tags semicolon parents)
 
     -- none of p stands before what follows the names
     standard_opens : (p : TextToken → Bool) → Misses p kind.Word (codes "in") → Misses p kind.Punct (codes "=") → Misses p kind.Punct (codes "{") → Misses p kind.Word (codes "tags") → Misses p kind.Punct (codes ";") → Opens StandardBehind p never
     standard_opens p above equals opening tags semicolon = then_opens (Above types) _ p p never (above_opens types p above) (shape_on_opens p equals opening tags semicolon)
 
 module _ (n : ℕ) (f : Reader (Node TypeTree)) (type : Production TextToken (Node TypeTree)) (a : Right n f type type_goes) where
+  -- what follows the `{` of a record, as a shape
+  shape_in_braces : (q : TextToken → Bool) (opening : Node Text) → Right n (bind (record_behind f opening) (λ r. done (Shape r))) (InBraces type opening >>= λ r. gives (Shape r)) q
+  shape_in_braces q opening = map_right n (record_behind f opening) (λ r. Shape r) (InBraces type opening) q (record_right n f type type_goes a (no_type_goes (codes ",") refl refl) (no_type_goes (codes "}") refl refl) opening q)
+
+  -- the reader of a record or a name reads it
+  wanted_right : Right n (record_or_path f) (Wanted type) is_colons
+  unfolding record_or_path
+  wanted_right =
+      on_next_same n (a_mark (codes "{")) (λ opening. bind (record_behind f opening) (λ r. done (Shape r))) (bind path_at (λ p. done (Named p)))
+      (λ opening. InBraces type opening >>= λ r. gives (Shape r)) (path >>= λ p. gives (Named p)) is_colons (mark_agrees (codes "{"))
+      (shape_in_braces is_colons)
+      (map_right n path_at (λ p. Named p) path is_colons (path_right n))
+      (starts_open (path >>= λ p. gives (Named p)) _ is_colons (then_starts path _ _ (path_starts _ (not_taken_starts ident (is_mark_token (codes "{")) (ident_starts (codes "{"))))))
+
   -- the reader of the shape reads it
-  shape_right : Right n (shape_reader f) (Shape type) opens_shape
+  shape_right : Right n (shape_reader f) (ShapePart type) opens_shape
   unfolding shape_reader
   shape_right =
-      let wanted = λ (opening : Node Text). map_right n (record_behind f opening) (λ r. Some r) (InBraces type opening) opens_shape (record_right n f type type_goes a (no_type_goes (codes ",") refl refl) (no_type_goes (codes "}") refl refl) opening opens_shape) in
-      same_right n (shape_reader f) (ShapeChoice type) (Shape type) opens_shape
-      (on_next_same n (a_mark (codes "=")) (λ _. bind (expect (a_mark (codes "{"))) (λ opening. bind (record_behind f opening) (λ r. done (Some r)))) (on_next (a_mark (codes "{")) (λ opening. bind (record_behind f opening) (λ r. done (Some r))) (done None))
-      (λ _. Wanted type) (Wanted type ∣ gives None) opens_shape (mark_agrees (codes "="))
-      (λ _. then_right n (expect (a_mark (codes "{"))) _ (mark (codes "{")) _ never opens_shape (expect_right n (a_mark (codes "{")) (mark_agrees (codes "{")) never) wanted (λ opening. never_opens _ opens_shape))
-      (on_next_same n (a_mark (codes "{")) (λ opening. bind (record_behind f opening) (λ r. done (Some r))) (done None) (λ opening. InBraces type opening >>= λ r. gives (Some r)) (gives None) opens_shape (mark_agrees (codes "{"))
-      wanted (done_right n None opens_shape) (gives_not_taken None (is_mark_token (codes "{")) opens_shape (λ t e. right_false _ _ e)))
-      (either_opens (Wanted type) (gives None) _ opens_shape
-      (starts_open (Wanted type) _ opens_shape (then_starts (mark (codes "{")) _ _ (the_mark_starts (codes "{") _ (λ t k e. rw (k, e) refl))))
-      (gives_not_taken None (is_mark_token (codes "=")) opens_shape (λ t e. left_false _ _ e))))
-      (shape_agrees type a.agrees) (shape_there type) (shape_back type)
+      same_right n (shape_reader f) (ShapeChoice type) (ShapePart type) opens_shape
+      (on_next_same n (a_mark (codes "=")) (λ _. bind (record_or_path f) (λ shape. done (Some shape))) (on_next (a_mark (codes "{")) (λ opening. bind (record_behind f opening) (λ r. done (Some (Shape r)))) (done None))
+      (λ _. Wanted type >>= λ shape. gives (Some shape)) (RecordPart type ∣ gives None) opens_shape (mark_agrees (codes "="))
+      (λ _. map_right n (record_or_path f) (λ shape. Some shape) (Wanted type) opens_shape (stops_right n (record_or_path f) (Wanted type) is_colons opens_shape (λ t e. right_false _ _ e) wanted_right))
+      (on_next_same n (a_mark (codes "{")) (λ opening. bind (record_behind f opening) (λ r. done (Some (Shape r)))) (done None) (λ opening. InBraces type opening >>= λ r. gives (Some (Shape r))) (gives None) opens_shape (mark_agrees (codes "{"))
+      (λ opening. map_right n (record_behind f opening) (λ r. Some (Shape r)) (InBraces type opening) opens_shape (record_right n f type type_goes a (no_type_goes (codes ",") refl refl) (no_type_goes (codes "}") refl refl) opening opens_shape))
+      (done_right n None opens_shape) (gives_not_taken None (is_mark_token (codes "{")) opens_shape (λ t e. right_false _ _ (left_false _ _ e))))
+      (either_opens (RecordPart type) (gives None) _ opens_shape
+      (starts_open (RecordPart type) _ opens_shape (then_starts (mark (codes "{")) _ _ (the_mark_starts (codes "{") _ (λ t k e. rw (k, e) refl))))
+      (gives_not_taken None (is_mark_token (codes "=")) opens_shape (λ t e. left_false _ _ (left_false _ _ e)))))
+      (maybe_agrees (shape_decl type) (shape_agrees type a.agrees)) (shape_there type) (shape_back type)
 
   -- the reader of the tags reads them
   tags_right : Right n (tags_at f) (Tags type) or_tags
@@ -150,7 +170,7 @@ module _ (n : ℕ) (f : Reader (Node TypeTree)) (type : Production TextToken (No
   unfolding standard_behind
   standard_right entity ns =
       then_right n (above_at types_at) _ (Above types) _ (or_in is_colons) never (above_right types n types_at is_colons (types_right n)) (λ parents.
-      then_right n (shape_reader f) _ (Shape type) _ opens_shape never shape_right (λ shape.
+      then_right n (shape_reader f) _ (ShapePart type) _ opens_shape never shape_right (λ shape.
       then_right n (tags_at f) _ (Tags type) _ or_tags never tags_right (λ tags.
       mark_done n (codes ";") _ never)
       (λ tags. starts_open _ or_tags never (then_starts (mark (codes ";")) _ or_tags (the_mark_starts (codes ";") or_tags (λ t k e. rw (k, e) refl)))))

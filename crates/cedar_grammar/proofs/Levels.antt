@@ -3,7 +3,8 @@
 use Rattle.std.proofs.Common.{◌↔◌, ◌≤◌, ℕ, zero, suc, ◌+◌, List, [], ◌∷◌, codes, subst, inl, inr, ⊎_elim, arith}
 use Rattle.cedar_tokens.specs.Lexemes.{TextToken}
 use Rattle.cedar_grammar.specs.Productions.{Production, ◌>>◌, ReadsMany, none, more, trailing}
-use Rattle.cedar_grammar.specs.Trees.{Node, Annotated, TypeTree, Attrs, AttrDecl, attrs_of, nest, greatest_nest}
+use Rattle.cedar_tree.specs.Trees.{Node, Annotated, TypeTree, Attrs, AttrDecl, attrs_of}
+use Rattle.cedar_tree.specs.Nesting.{nest, greatest_nest}
 use Rattle.cedar_grammar.specs.Grammar.{mark, attr_decl, record_type, type_upto}
 
 abbrev Types : Type 1

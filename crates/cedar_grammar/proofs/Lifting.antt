@@ -3,8 +3,8 @@
 use Rattle.std.proofs.Common.{ℕ, ◌≤◌, List, Some, None, codes, inl, inr, ⊎_elim, arith}
 use Rattle.cedar_tokens.specs.Lexemes.{TextToken}
 use Rattle.cedar_grammar.specs.Productions.{Production, gives, ◌>>=◌, ◌>>◌, ◌∣◌, ReadsMany, none, more, many, optional, maybe, separated, trailing}
-use Rattle.cedar_grammar.specs.Trees.{Node, TypeTree, ByKey}
-use Rattle.cedar_grammar.specs.Grammar.{keyword, mark, name, path, ident, idents, names, bracketed, annots, annotated, attr_decl, record_type, type_upto, tags_clause, standard_entity, enum_entity, pr, context_type, app_decl, applies_to, action_decl, type_decl, decl, namespace, item_behind, schema}
+use Rattle.cedar_tree.specs.Trees.{Node, TypeTree, ByKey}
+use Rattle.cedar_grammar.specs.Grammar.{keyword, mark, name, path, ident, idents, names, bracketed, annots, annotated, attr_decl, record_type, type_upto, tags_clause, shape_decl, standard_entity, enum_entity, pr, context_type, app_decl, applies_to, action_decl, type_decl, decl, namespace, item_behind, schema}
 use Rattle.cedar_grammar.proofs.Levels.{level_as_nest}
 
 -- whatever R reads, S reads too
@@ -73,13 +73,19 @@ module _ (type other : Production TextToken (Node TypeTree)) (f : Lifts type oth
       bracketed_sub (codes "{") (codes "}") _ _
       (either_sub _ _ (gives _) (gives _) (first_sub _ _ _ (trailing_sub (mark (codes ",")) (attr_decl type) (attr_decl other) attr_sub)) (itself (gives _)))
 
+  shape_sub : Lifts (shape_decl type) (shape_decl other)
+  shape_sub =
+      either_sub _ _ (mark (codes "=") >> path >>= _) (mark (codes "=") >> path >>= _)
+      (first_sub (optional (mark (codes "=")) >> record_type type) (optional (mark (codes "=")) >> record_type other) _ (rest_sub (optional (mark (codes "="))) _ _ (λ _. record_sub)))
+      (itself (mark (codes "=") >> path >>= _))
+
   standard_sub : Lifts (standard_entity type) (standard_entity other)
   standard_sub =
       rest_sub (keyword (codes "entity")) _ _ (λ entity.
       rest_sub idents _ _ (λ ns.
       rest_sub _ _ _ (λ parents.
       then_sub _ _ _ _
-      (maybe_sub _ _ (rest_sub (optional (mark (codes "="))) _ _ (λ _. record_sub)))
+      (maybe_sub (shape_decl type) (shape_decl other) shape_sub)
       (λ shape. first_sub _ _ _ (maybe_sub (tags_clause type) (tags_clause other) (rest_sub (keyword (codes "tags")) _ _ (λ tags. first_sub type other _ f)))))))
 
   context_sub : Lifts (context_type type) (context_type other)

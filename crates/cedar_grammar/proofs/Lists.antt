@@ -3,7 +3,7 @@
 use Rattle.std.proofs.Common.{◌≡◌, ◌<◌, ℕ, suc, Bool, true, false, ◌||◌, List, [], ◌∷◌, codes, sym, ap, ◌∙◌, subst, refl, inl, inr, ⊎_elim, arith}
 use Rattle.cedar_tokens.specs.Lexemes.{TextToken}
 use Rattle.cedar_grammar.specs.Productions.{Production, gives, ◌>>=◌, ◌>>◌, ◌∣◌, ReadsMany, none, more, optional, trailing}
-use Rattle.cedar_grammar.specs.Trees.{Node, Text, placed, stands}
+use Rattle.cedar_tree.specs.Trees.{Node, Text, placed, stands}
 use Rattle.cedar_grammar.specs.Grammar.{text_where, is_mark_token, mark, commas, bracketed, one_or_list}
 use Rattle.cedar_grammar.specs.Reading.{Reader, done, on_next, expect, a_mark, comma_round, commas_at, brace_round, braced_at, brackets_behind, one_or_list_at}
 use Rattle.cedar_grammar.proofs.Agreement.{Agrees, gives_agrees, either_agrees, then_agrees, trailing_agrees}

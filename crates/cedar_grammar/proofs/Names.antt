@@ -3,7 +3,7 @@
 use Rattle.std.proofs.Common.{◌≡◌, ◌⊎◌, ℕ, suc, Bool, true, false, List, [], ◌∷◌, Option, Some, None, codes, bytes_eq, sym, ap, ◌∙◌, subst, refl, inl, inr}
 use Rattle.cedar_tokens.specs.Lexemes.{TextToken}
 use Rattle.cedar_grammar.specs.Productions.{Production, IsOne, gives, ◌>>=◌, ◌>>◌, ◌∣◌, ReadsMany, none, more, many}
-use Rattle.cedar_grammar.specs.Trees.{Node, Text, Path, QualName}
+use Rattle.cedar_tree.specs.Trees.{Node, Text, Path, QualName}
 use Rattle.cedar_grammar.specs.Grammar.{at_token, text_where, is_word_token, is_mark_token, is_ident_token, literal_value, mark, word, str, ident, name, path_of, path, types, qualified, ref, refs}
 use Rattle.cedar_grammar.specs.Reading.{Reader, done, expect, looped, a_mark, a_word, an_ident, name_at, path_round, path_behind, path_at, types_at, id_round, ref_behind, ref_at, one_or_list_at}
 use Rattle.cedar_grammar.proofs.Agreement.{Agrees, gives_agrees, then_agrees, many_agrees}

@@ -4,7 +4,7 @@ use Rattle.std.proofs.Common.{◌<◌, ℕ, suc, Bool, List, [], ◌∷◌, Some
 use Rattle.cedar_tokens.specs.Lexemes.{TextToken}
 use Rattle.cedar_tokens.specs.declared.token.TokenKind.TheVariants as kind
 use Rattle.cedar_grammar.specs.Productions.{Production, gives, ◌>>=◌, ◌∣◌, ReadsMany, none, more, many}
-use Rattle.cedar_grammar.specs.Trees.{Node, placed, between, Text, ByKey, Annotated, TypeTree, Declaration, Common, Namespace}
+use Rattle.cedar_tree.specs.Trees.{Node, placed, between, Text, ByKey, Annotated, TypeTree, Declaration, Common, Namespace}
 use Rattle.cedar_grammar.specs.Grammar.{keyword, mark, ident, path, bracketed, annotated, standard_entity, enum_entity, action_decl, type_decl, decl, namespace, alone, item_behind}
 use Rattle.cedar_grammar.specs.Reading.{Reader, done, expect, looped, a_keyword, a_mark, an_ident, path_at, annotated_at, entity_behind, action_behind, type_behind, decl_at, decl_round, namespace_behind, item_at}
 use Rattle.cedar_grammar.proofs.Agreement.{Agrees, gives_agrees, then_agrees, many_agrees}

@@ -7,7 +7,7 @@ use Rattle.cedar_text.specs.Words.{is_word, is_reserved_word, is_id}
 use Rattle.cedar_tokens.specs.Lexemes.{TextToken}
 use Rattle.cedar_tokens.specs.declared.token.TokenKind.{TokenKind}
 use Rattle.cedar_tokens.specs.declared.token.TokenKind.TheVariants as kind
-use Rattle.cedar_grammar.specs.Trees.{Node, Text}
+use Rattle.cedar_tree.specs.Trees.{Node, Text}
 use Rattle.cedar_grammar.specs.Grammar.{is_word_kind, is_str_kind, is_punct_kind, is_word_token, is_keyword, is_mark_token, is_ident_token, text_where, literal_value}
 
 -- both hold

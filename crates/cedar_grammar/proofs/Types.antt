@@ -3,7 +3,7 @@
 use Rattle.std.proofs.Common.{◌≡◌, ◌⊎◌, ◌≤◌, ℕ, zero, suc, Bool, true, false, ◌||◌, List, [], ◌∷◌, codes, bytes_eq, sym, ap, ◌∙◌, subst, refl, inl, inr, arith}
 use Rattle.cedar_tokens.specs.Lexemes.{TextToken}
 use Rattle.cedar_grammar.specs.Productions.{Production, IsOne, gives, ◌>>=◌, ◌>>◌, ◌∣◌, many, optional, trailing}
-use Rattle.cedar_grammar.specs.Trees.{Node, Text, Annotated, TypeTree, Set, Attrs, no_attrs, AttrDecl, attrs_of, placed}
+use Rattle.cedar_tree.specs.Trees.{Node, Text, Annotated, TypeTree, Set, Attrs, no_attrs, AttrDecl, attrs_of, placed}
 use Rattle.cedar_grammar.specs.Grammar.{is_keyword, is_mark_token, is_ident_token, keyword, mark, ident, name, path_of, path, attr_of, attr_decl, record_type, set_type, as_record, as_name, type_upto}
 use Rattle.cedar_grammar.specs.Reading.{Reader, done, on_next, expect, a_keyword, a_mark, an_ident, name_at, path_behind, path_at, braced_at, question_at, attr_at, record_behind, set_behind, type_at}
 use Rattle.cedar_grammar.proofs.Agreement.{Agrees, gives_agrees, either_agrees, then_agrees, trailing_agrees}

@@ -6,8 +6,8 @@ use Rattle.cedar_tokens.specs.Lexemes.{TextToken}
 use Rattle.cedar_tokens.specs.declared.token.TokenKind.{TokenKind}
 use Rattle.cedar_tokens.specs.declared.token.TokenKind.TheVariants as kind
 use Rattle.cedar_grammar.specs.Productions.{each, Production, class, gives, ◌>>=◌, ◌>>◌, ◌∣◌, many, optional, maybe, trailing, Completable}
-use Rattle.cedar_grammar.specs.Trees.{Node, stands, placed, Place, Annotations, ByKey, by_key, TypeTree, Set, no_attrs, attrs_of, Principal, Resource, Named, Shape, Types, Context, Schema}
-use Rattle.cedar_grammar.specs.Grammar.{at_token, text_where, is_word_token, is_keyword, is_mark_token, is_ident_token, literal_value, keyword, mark, word, str, ident, name, commas, bracketed, path_of, path, idents, names, one_or_list, types, qualified, ref, refs, annotation_of, keys_of, is_new_key, annotation, annots, annotated, attr_of, attr_decl, record_type, set_type, as_record, as_name, type_upto, tags_clause, standard_entity, enum_entity, pr, context_type, app_decl, applies_to, attributes_tail, action_decl, type_decl, decl, namespace, alone, item_behind, schema, Reads, Viable}
+use Rattle.cedar_tree.specs.Trees.{Node, stands, placed, Place, Annotations, ByKey, by_key, TypeTree, Set, no_attrs, attrs_of, Principal, Resource, Named, Shape, Types, Context, Schema}
+use Rattle.cedar_grammar.specs.Grammar.{at_token, text_where, is_word_token, is_keyword, is_mark_token, is_ident_token, literal_value, keyword, mark, word, str, ident, name, commas, bracketed, path_of, path, idents, names, one_or_list, types, qualified, ref, refs, annotation_of, keys_of, is_new_key, annotation, annots, annotated, attr_of, attr_decl, record_type, set_type, as_record, as_name, type_upto, tags_clause, shape_decl, standard_entity, enum_entity, pr, context_type, app_decl, applies_to, attributes_tail, action_decl, type_decl, decl, namespace, alone, item_behind, schema, Reads, Viable}
 use Rattle.cedar_grammar.proofs.Agreement.{Agrees, completed, begun, class_agrees, gives_agrees, either_agrees, then_agrees, many_agrees, each_agrees, optional_agrees, maybe_agrees, separated_agrees, trailing_agrees}
 use Rattle.cedar_grammar.proofs.FreshKeys.{fresh, fresh_is_new, fresh_is_word}
 
@@ -148,6 +148,14 @@ module _ (type : Production TextToken (Node TypeTree)) (a : Agrees type) where
   pub tags_agree : Agrees (tags_clause type)
   tags_agree = then_agrees (keyword (codes "tags")) _ (keyword_agrees (codes "tags")) (λ tags. then_agrees type _ a (λ ty. gives_agrees (tags.loc, ty)))
 
+  pub shape_agrees : Agrees (shape_decl type)
+  shape_agrees =
+      either_agrees (optional (mark (codes "=")) >> record_type type >>= λ r. gives (Shape r)) (mark (codes "=") >> path >>= λ p. gives (Named p))
+      (then_agrees (optional (mark (codes "=")) >> record_type type) _
+      (then_agrees (optional (mark (codes "="))) _ (optional_agrees (mark (codes "=")) (mark_agrees (codes "="))) (λ _. record_agrees type a))
+      (λ r. gives_agrees (Shape r)))
+      (then_agrees (mark (codes "=") >> path) _ (then_agrees (mark (codes "=")) _ (mark_agrees (codes "=")) (λ _. path_agrees)) (λ p. gives_agrees (Named p)))
+
   pub standard_agrees : Agrees (standard_entity type)
   standard_agrees =
       then_agrees (keyword (codes "entity")) _ (keyword_agrees (codes "entity")) (λ entity.
@@ -157,10 +165,7 @@ module _ (type : Production TextToken (Node TypeTree)) (a : Agrees type) where
       (then_agrees (keyword (codes "in") >> types) _ (then_agrees (keyword (codes "in")) _ (keyword_agrees (codes "in")) (λ _. types_agree)) (λ ps. gives_agrees ps.node))
       (gives_agrees []))
       (λ parents.
-      then_agrees (maybe (optional (mark (codes "=")) >> record_type type)) _
-      (maybe_agrees (optional (mark (codes "=")) >> record_type type)
-      (then_agrees (optional (mark (codes "="))) _ (optional_agrees (mark (codes "=")) (mark_agrees (codes "="))) (λ _. record_agrees type a)))
-      (λ shape.
+      then_agrees (maybe (shape_decl type)) _ (maybe_agrees (shape_decl type) shape_agrees) (λ shape.
       then_agrees (maybe (tags_clause type)) _ (maybe_agrees (tags_clause type) tags_agree) (λ tags.
       then_agrees (mark (codes ";")) _ (mark_agrees (codes ";")) (λ semicolon. gives_agrees _))))))
 

@@ -4,7 +4,7 @@ use Rattle.std.proofs.Common.{◌≡◌, ◌<◌, ◌≤◌, ℕ, zero, suc, ◌
 use Rattle.std.proofs.lemmas.List.{append-nil}
 use Rattle.cedar_tokens.specs.Lexemes.{TextToken}
 use Rattle.cedar_grammar.specs.Productions.{Production, gives, ◌>>=◌, ReadsMany, none, more}
-use Rattle.cedar_grammar.specs.Trees.{Node, Annotated, TypeTree, Namespace, Schema}
+use Rattle.cedar_tree.specs.Trees.{Node, Annotated, TypeTree, Namespace, Schema}
 use Rattle.cedar_grammar.specs.Grammar.{annots, item_behind, type_upto, schema, Reads, Viable}
 use Rattle.cedar_grammar.specs.Reading.{Reader, done, after, rounds, looped, annots_at, type_at, item_at, item_round, schema_at}
 use Rattle.cedar_grammar.specs.Stops.{IsFirstStray, Finds}

@@ -10,7 +10,7 @@ use Rattle.cedar_tokens.specs.Lexemes.{TextToken}
 use Rattle.cedar_tokens.specs.declared.token.TokenKind.{TokenKind}
 use Rattle.cedar_tokens.specs.declared.token.TokenKind.TheVariants as kind
 use Rattle.cedar_grammar.specs.Productions.{Production, class, gives, ◌>>=◌, ◌>>◌, ◌∣◌, many, each, optional, maybe, separated, trailing}
-use Rattle.cedar_grammar.specs.Trees.{Node, Place, between, empty_before, stands, placed, Text, Path, Annotation, Annotations, ByKey, by_key, Annotated, TypeTree, Set, Ident, Record, Attrs, no_attrs, AttrDecl, attrs_of, Standard, Enum, PR, Principal, Resource, ContextDecl, Named, Shape, AppDecl, Types, Context, QualName, Declaration, Entity, Action, Common, Namespace, Schema}
+use Rattle.cedar_tree.specs.Trees.{Node, Place, between, empty_before, stands, placed, Text, Path, Annotation, Annotations, ByKey, by_key, Annotated, TypeTree, Set, Ident, Record, Attrs, no_attrs, AttrDecl, attrs_of, Standard, Enum, PR, Principal, Resource, ContextDecl, Named, Shape, AppDecl, Types, Context, QualName, Declaration, Entity, Action, Common, Namespace, Schema}
 
 -- the kinds of tokens
 abbrev pub is_word_kind : TokenKind → Bool
@@ -259,29 +259,35 @@ tags_clause type = do
   ty ← type
   gives (tags.loc, ty)
 
--- the place of the token that follows the record of an entity type: `tags`, or else this `;`
-abbrev pub behind_record : Option (Place × Node TypeTree) → Place → Place
-behind_record None semicolon = semicolon
-behind_record (Some tags) semicolon = tags.0
+-- the place of the token that follows the shape of an entity type: `tags`, or else this `;`
+abbrev pub behind_shape : Option (Place × Node TypeTree) → Place → Place
+behind_shape None semicolon = semicolon
+behind_shape (Some tags) semicolon = tags.0
 
--- the attributes; where no record stands, none, at the empty place before what stands here
-abbrev pub shape_at : Option (Node Attrs) → Place → Node Attrs
-shape_at None place = stands no_attrs (empty_before place)
+-- the shape; where none stands, a record without attributes, at the empty place before what stands here
+abbrev pub shape_at : Option ContextDecl → Place → ContextDecl
+shape_at None place = Shape (stands no_attrs (empty_before place))
 shape_at (Some shape) place = shape
 
--- 'entity' Idents ['in' Types] [['='] Record] ['tags' Type] ';'
+-- ['='] Record | '=' Path
+abbrev pub shape_decl : Production TextToken (Node TypeTree) → Production TextToken ContextDecl
+shape_decl type =
+    (optional (mark (codes "=")) >> record_type type >>= λ r. gives (Shape r))
+    ∣ (mark (codes "=") >> path >>= λ p. gives (Named p))
+
+-- 'entity' Idents ['in' Types] [['='] Record | '=' Path] ['tags' Type] ';'
 abbrev pub standard_entity : Production TextToken (Node TypeTree) → Production TextToken (Node Declaration)
 standard_entity type = do
   entity ← keyword (codes "entity")
   ns ← idents
   parents ← (keyword (codes "in") >> types >>= λ ps. gives ps.node) ∣ gives []
-  shape ← maybe (optional (mark (codes "=")) >> record_type type)
+  shape ← maybe (shape_decl type)
   tags ← maybe (tags_clause type)
   semicolon ← mark (codes ";")
   gives (placed (Entity (Standard (record {
     names = ns;
     member_of_types = parents;
-    attrs = shape_at shape (behind_record tags semicolon.loc);
+    attrs = shape_at shape (behind_shape tags semicolon.loc);
     tags = option_map (λ p. p.1) tags;
   }))) entity.loc semicolon.loc)
 

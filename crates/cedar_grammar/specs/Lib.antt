@@ -1,7 +1,7 @@
 -- SPDX-License-Identifier: Apache-2.0
+pub use Rattle.cedar_tree.specs.Meanings
+pub use Rattle.cedar_tree.specs.Trees
 pub mod Grammar
-pub mod Meanings
 pub mod Productions
 pub mod Reading
 pub mod Stops
-pub mod Trees

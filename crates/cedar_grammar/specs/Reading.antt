@@ -2,8 +2,8 @@
 -- How a parser goes through the tokens of a schema: each choice is by the next token alone.
 use Rattle.std.specs.Prelude.{ℕ, zero, suc, Bool, true, false, List, [], ◌∷◌, ◌++◌, length, codes, Option, Some, None, option_map, Result, Ok, Err}
 use Rattle.cedar_tokens.specs.Lexemes.{TextToken}
-use Rattle.cedar_grammar.specs.Trees.{Node, Place, between, stands, placed, Text, Path, Annotation, Annotations, ByKey, by_key, Annotated, TypeTree, Set, Attrs, no_attrs, AttrDecl, attrs_of, Standard, Enum, PR, Principal, Resource, Named, Shape, AppDecl, Types, Context, QualName, Declaration, Entity, Action, Common, Namespace, Schema}
-use Rattle.cedar_grammar.specs.Grammar.{text_where, is_word_token, is_keyword, is_mark_token, is_ident_token, literal_value, path_of, qualified, annotation_of, is_new_key, attr_of, as_record, as_name, behind_record, shape_at, alone}
+use Rattle.cedar_tree.specs.Trees.{Node, Place, between, stands, placed, Text, Path, Annotation, Annotations, ByKey, by_key, Annotated, TypeTree, Set, Attrs, no_attrs, AttrDecl, attrs_of, Standard, Enum, PR, Principal, Resource, ContextDecl, Named, Shape, AppDecl, Types, Context, QualName, Declaration, Entity, Action, Common, Namespace, Schema}
+use Rattle.cedar_grammar.specs.Grammar.{text_where, is_word_token, is_keyword, is_mark_token, is_ident_token, literal_value, path_of, qualified, annotation_of, is_new_key, attr_of, as_record, as_name, behind_shape, shape_at, alone}
 
 -- a reader gives a value and the tokens that are left, or how many are left where it finds a fault
 abbrev pub Reader : Type 0 → Type 0
@@ -195,11 +195,17 @@ type_at (suc n) ts =
     (on_next (a_mark (codes "{")) (λ opening. record_behind (type_at n) opening >>= λ r. done (as_record r))
     (path_at >>= λ p. done (as_name p))) ts
 
--- what may follow the parents of an entity type: `=` and a record, a record, or neither
-unfoldable pub shape_reader : Reader (Node TypeTree) → Reader (Option (Node Attrs))
+-- a record, or a name
+unfoldable pub record_or_path : Reader (Node TypeTree) → Reader ContextDecl
+record_or_path type =
+    on_next (a_mark (codes "{")) (λ opening. record_behind type opening >>= λ r. done (Shape r))
+    (path_at >>= λ p. done (Named p))
+
+-- what may follow the parents of an entity type: `=` and a record or a name, a record, or neither
+unfoldable pub shape_reader : Reader (Node TypeTree) → Reader (Option ContextDecl)
 shape_reader type =
-    on_next (a_mark (codes "=")) (λ _. expect (a_mark (codes "{")) >>= λ opening. record_behind type opening >>= λ r. done (Some r))
-    (on_next (a_mark (codes "{")) (λ opening. record_behind type opening >>= λ r. done (Some r)) (done None))
+    on_next (a_mark (codes "=")) (λ _. record_or_path type >>= λ shape. done (Some shape))
+    (on_next (a_mark (codes "{")) (λ opening. record_behind type opening >>= λ r. done (Some (Shape r))) (done None))
 
 unfoldable pub tags_at : Reader (Node TypeTree) → Reader (Option (Place × Node TypeTree))
 tags_at type = on_next (a_keyword (codes "tags")) (λ tags. type >>= λ ty. done (Some (tags.loc, ty))) (done None)
@@ -218,7 +224,7 @@ standard_behind type entity ns = do
   done (placed (Entity (Standard (record {
     names = ns;
     member_of_types = parents;
-    attrs = shape_at shape (behind_record tags semicolon.loc);
+    attrs = shape_at shape (behind_shape tags semicolon.loc);
     tags = option_map (λ p. p.1) tags;
   }))) entity.loc semicolon.loc)
 

@@ -3,7 +3,7 @@
 use Rattle.std.specs.Prelude.{◌≡◌, ℕ, zero, suc, List, [], ◌∷◌, ◌++◌, length, Result, Ok, Err}
 use Rattle.cedar_tokens.specs.Lexemes.{TextToken}
 use Rattle.cedar_grammar.specs.Grammar.{Reads, Viable}
-use Rattle.cedar_grammar.specs.Trees.{Schema}
+use Rattle.cedar_tree.specs.Trees.{Schema}
 
 -- t is the first token that can't follow the tokens before it, whatever comes after it
 pub record IsFirstStray (ts front : List TextToken) (t : TextToken) (rest : List TextToken) : Type 0 where

@@ -5,7 +5,8 @@ ghost use Rattle.cedar_grammar.specs.Grammar.{schema, type_upto, Reads, Viable};
 ghost use Rattle.cedar_grammar.specs.Productions.{Completable};
 ghost use Rattle.cedar_grammar.specs.Reading.{schema_at};
 ghost use Rattle.cedar_grammar.specs.Stops.{Finds};
-ghost use Rattle.cedar_grammar.specs.Trees.{Node, Schema, TypeTree, nest};
+ghost use Rattle.cedar_tree.specs.Trees.{Node, Schema, TypeTree};
+ghost use Rattle.cedar_tree.specs.Nesting.{nest};
 
 /// A law with no work to do: the tokens at which a schema may stop short are exactly those that
 /// some further tokens complete to a schema, however deep types may nest.

@@ -1,7 +1,7 @@
 -- SPDX-License-Identifier: Apache-2.0
 -- What readers find behind a piece of which the whole keeps the place, the name or what was read so far.
 use Rattle.std.specs.Prelude.{List, codes, Some, option_map}
-use Rattle.cedar_grammar.specs.Grammar.{shape_at, behind_record}
+use Rattle.cedar_grammar.specs.Grammar.{shape_at, behind_shape}
 use Rattle.cedar_grammar.specs.Reading.{Reader, ◌>>=◌, ◌>>◌, done, looped, expect, a_mark, braced_at, annots_at, one_or_list_at, ref_at, above_at, shape_reader, tags_at, app_at, applies_at, tail_at, decl_round, item_at}
 use Rattle.cedar_grammar.specs.Trees.{Node, Text, Path, TypeTree, Annotated, AppDecl, Standard, Entity, ActionDecl, Action, Declaration, Namespace, placed, between}
 
@@ -14,7 +14,7 @@ standard_rest type entity ns parents = do
   done (placed (Entity (Standard (record {
     names = ns;
     member_of_types = parents;
-    attrs = shape_at shape (behind_record tags semicolon.loc);
+    attrs = shape_at shape (behind_shape tags semicolon.loc);
     tags = option_map (λ p. p.1) tags;
   }))) entity.loc semicolon.loc)
 

@@ -2,20 +2,21 @@
 ghost use Rattle.std.specs.Prelude.{◌≡◌, ℕ, ◌<◌, ◌≤◌, length, map, IfOk, OnOk, option_map};
 ghost use Rattle.cedar_names.specs.Identifiers.{id_word};
 ghost use Rattle.cedar_text.specs.Lists.{elements};
-ghost use Rattle.cedar_grammar.specs.Grammar.{shape_at, behind_record};
-ghost use Rattle.cedar_grammar.specs.Meanings.{node_of, path_tree, attrs_tree, type_tree, decl_tree};
-ghost use Rattle.cedar_grammar.specs.Reading.{above_at, types_at, shape_reader, tags_at, standard_behind, enum_behind, entity_behind, type_at};
+ghost use Rattle.cedar_grammar.specs.Grammar.{shape_at, behind_shape};
+ghost use Rattle.cedar_grammar.specs.Meanings.{node_of, path_tree, context_tree, type_tree, decl_tree};
+ghost use Rattle.cedar_grammar.specs.Reading.{above_at, types_at, record_or_path, shape_reader, tags_at, standard_behind, enum_behind, entity_behind, type_at};
 ghost use Rattle.cedar_parser.specs.Behind.{standard_rest};
 ghost use Rattle.cedar_parser.specs.Giving.{Gives, tokens_of, lexeme_node};
 
 use crate::fault::Fault;
 use crate::lists::{Idents, Literals, Paths};
 use crate::tokens::{Parser, Tokens};
-use crate::types::Attribute;
 use cedar_data::{Dup, Items, Mem, Out};
 use cedar_names::{Id, Loc, Node, NonEmpty};
 use cedar_tokens::Lexeme;
-use cedar_tree::{Declaration, EntityDecl, EnumEntityDecl, Path, StandardEntityDecl, Type};
+use cedar_tree::{
+    ContextDecl, Declaration, EntityDecl, EnumEntityDecl, Path, StandardEntityDecl, Type,
+};
 
 impl<'s> Parser<'s> {
     /// Takes the entity types after `in`, if it stands next.
@@ -32,21 +33,35 @@ impl<'s> Parser<'s> {
         Ok(Items::new(self.alloc))
     }
 
-    /// Takes the record of entity types, with or without `=` before it, if it stands next.
+    /// Takes a record or a name.
+    #[tactic(auto, unfolding(cedar_grammar::specs::Reading::record_or_path))]
+    fn record_or_path(&self, tokens: &mut Tokens<'_, '_>) -> Out<ContextDecl, Fault>
+        ensures read { (n : ℕ) → length tokens.old.rest.now < n → Gives context_tree (tokens_of self.now.source.now tokens.new.rest.now) result
+            (record_or_path (type_at n) (tokens_of self.now.source.now tokens.old.rest.now)) }
+        ensures shorter { OnOk result (length tokens.new.rest.now < length tokens.old.rest.now) }
+    {
+        if let Some(opening) = self.accept_mark(tokens, "{") {
+            let record = self.record_behind(tokens, opening)?;
+            return Ok(ContextDecl::Record(record));
+        }
+        let path = self.path(tokens)?;
+        Ok(ContextDecl::Path(path))
+    }
+
+    /// Takes the shape of entity types, a record with or without `=` before it or a name behind `=`, if it stands next.
     #[tactic(auto, unfolding(cedar_grammar::specs::Reading::shape_reader))]
-    fn shape(&self, tokens: &mut Tokens<'_, '_>) -> Out<Option<Node<Items<Attribute>>>, Fault>
-        ensures read { (n : ℕ) → length tokens.old.rest.now < n → Gives (option_map (node_of attrs_tree)) (tokens_of self.now.source.now tokens.new.rest.now) result
+    fn shape(&self, tokens: &mut Tokens<'_, '_>) -> Out<Option<ContextDecl>, Fault>
+        ensures read { (n : ℕ) → length tokens.old.rest.now < n → Gives (option_map context_tree) (tokens_of self.now.source.now tokens.new.rest.now) result
             (shape_reader (type_at n) (tokens_of self.now.source.now tokens.old.rest.now)) }
         ensures shorter { OnOk result (length tokens.new.rest.now ≤ length tokens.old.rest.now) }
     {
         if let Some(_) = self.accept_mark(tokens, "=") {
-            let opening = self.expect_mark(tokens, "{")?;
-            let shape = self.record_behind(tokens, opening)?;
+            let shape = self.record_or_path(tokens)?;
             return Ok(Some(shape));
         }
         if let Some(opening) = self.accept_mark(tokens, "{") {
-            let shape = self.record_behind(tokens, opening)?;
-            return Ok(Some(shape));
+            let record = self.record_behind(tokens, opening)?;
+            return Ok(Some(ContextDecl::Record(record)));
         }
         Ok(None)
     }
@@ -66,15 +81,15 @@ impl<'s> Parser<'s> {
         Ok(None)
     }
 
-    /// The record and the type of tags that were read, where this token stands behind them.
+    /// The shape and the type of tags that were read, where this token stands behind them.
     fn shape_and_tags(
         &self,
-        shape: Option<Node<Items<Attribute>>>,
+        shape: Option<ContextDecl>,
         tags: Option<(Loc, Node<Type>)>,
         behind: Lexeme<'_>,
-    ) -> Mem<(Node<Items<Attribute>>, Option<Node<Type>>)>
-        ensures shape { IfOk result (λ p. node_of attrs_tree p.0
-            ≡ shape_at (option_map (node_of attrs_tree) shape) (behind_record (option_map (λ p. (p.0, node_of type_tree p.1)) tags) (lexeme_node self.now.source.now behind.entry).loc)) }
+    ) -> Mem<(ContextDecl, Option<Node<Type>>)>
+        ensures shape { IfOk result (λ p. context_tree p.0
+            ≡ shape_at (option_map context_tree shape) (behind_shape (option_map (λ p. (p.0, node_of type_tree p.1)) tags) (lexeme_node self.now.source.now behind.entry).loc)) }
         ensures tags { IfOk result (λ p. p.1 ≡ option_map (λ t. t.1) tags) }
     {
         match tags {
@@ -90,23 +105,19 @@ impl<'s> Parser<'s> {
         }
     }
 
-    /// The record that was read; where none was, an empty one at the empty place before what stands there.
-    fn shape_before(
-        &self,
-        shape: Option<Node<Items<Attribute>>>,
-        behind: &Loc,
-    ) -> Mem<Node<Items<Attribute>>>
-        ensures { IfOk result (λ attrs. node_of attrs_tree attrs ≡ shape_at (option_map (node_of attrs_tree) shape) behind.now) }
+    /// The shape that was read; where none was, an empty record at the empty place before what stands there.
+    fn shape_before(&self, shape: Option<ContextDecl>, behind: &Loc) -> Mem<ContextDecl>
+        ensures { IfOk result (λ attrs. context_tree attrs ≡ shape_at (option_map context_tree shape) behind.now) }
     {
         if let Some(shape) = shape {
             return Ok(shape);
         }
         let src = behind.src.dup(self.alloc)?;
         let loc = Loc::new(behind.start, behind.start, src);
-        Ok(Node {
+        Ok(ContextDecl::Record(Node {
             node: Items::new(self.alloc),
             loc,
-        })
+        }))
     }
 
     /// Takes what follows the parents of entity types.

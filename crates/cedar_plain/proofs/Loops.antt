@@ -5,9 +5,9 @@ use Rattle.std.proofs.lemmas.List.{append-nil, append_assoc, drop_more, map-id}
 use Rattle.std.proofs.Math.ListN.{drop_of_length-le}
 use Rattle.cedar_data.specs.declared.memory.Failure.{Failure}
 use Rattle.cedar_data.specs.declared.memory.Failure.TheVariants as failure
-use Rattle.cedar_grammar.specs.Meanings.{attr_tree, attrs_tree, path_tree, node_of, annotated_tree, namespace_tree, schema_tree}
-use Rattle.cedar_grammar.specs.Meanings as meant
-use Rattle.cedar_grammar.specs.Trees as tree
+use Rattle.cedar_tree.specs.Meanings.{attr_tree, attrs_tree, path_tree, node_of, annotated_tree, namespace_tree, schema_tree}
+use Rattle.cedar_tree.specs.Meanings as meant
+use Rattle.cedar_tree.specs.Trees as tree
 use Rattle.cedar_text.specs.declared.node.Node.{Node}
 use Rattle.cedar_tree.specs.declared.annotated.Annotated as noted
 use Rattle.cedar_tree.specs.declared.declaration.Declaration.{Declaration}

@@ -1,10 +1,11 @@
 -- SPDX-License-Identifier: Apache-2.0
 -- Which schemas are plain, and what they declare. A schema is plain where none of these forms stands in it: a named
--- namespace, a common type, an enumerated type, tags, an `appliesTo`, a `?`, a record within an attribute's type, a
--- path of several identifiers, a reference with a path, a string literal as a name. What annotations say is left out.
+-- namespace, a common type, an enumerated type, a shape that is a name, tags, an `appliesTo`, a `?`, a record within an
+-- attribute's type, a path of several identifiers, a reference with a path, a string literal as a name. What annotations
+-- say is left out.
 use Rattle.std.specs.Prelude.{ℕ, ◌-◌, ◌==◌, true, false, List, [], ◌∷◌, length, map, Bool, Option, Some, None, option_map, flat_map}
-use Rattle.cedar_grammar.specs.Trees as tree
-use Rattle.cedar_grammar.specs.Trees.{Node, Text, Path, stands}
+use Rattle.cedar_tree.specs.Trees as tree
+use Rattle.cedar_tree.specs.Trees.{Node, Text, Path, stands}
 use Rattle.cedar_plain.specs.Plain.{TypeTree, Named, SetOf, DeclTree, Entities, Actions}
 
 -- goes on with a value, where there is one
@@ -70,11 +71,16 @@ plain_attrs (tree.attr annotations name required ty place own others) = do
 abbrev pub plain_reference : Node tree.QualName → Option (List ℕ)
 plain_reference r = without r.node.path (plain_word (stands r.node.eid r.loc))
 
+-- the attributes of a shape that is a record
+abbrev pub plain_shape : tree.ContextDecl → Option (List (List ℕ × TypeTree))
+plain_shape (tree.Named path) = None
+plain_shape (tree.Shape attrs) = plain_attrs attrs.node
+
 -- entity types
 abbrev pub plain_entities : tree.StandardEntityDecl → Option DeclTree
 plain_entities e = without e.tags do
   parents ← each plain_path e.member_of_types
-  attributes ← plain_attrs e.attrs.node
+  attributes ← plain_shape e.attrs
   Some (Entities (map (λ n. n.node) e.names) parents attributes)
 
 -- actions

@@ -1,21 +1,21 @@
 // SPDX-License-Identifier: Apache-2.0
 ghost use Rattle.std.specs.Prelude.{◌≡◌, ◌++◌, ◌∷◌, [], ℕ, List, Option, map, option_map, IfOk};
-ghost use Rattle.cedar_grammar.specs.Meanings as tree;
-ghost use Rattle.cedar_grammar.specs.Trees.{stands};
+ghost use Rattle.cedar_tree.specs.Meanings as tree;
+ghost use Rattle.cedar_tree.specs.Trees.{stands};
 ghost use Rattle.cedar_names.specs.Identifiers.{id_word, id_words};
 ghost use Rattle.cedar_text.specs.Lists.{elements};
 ghost use Rattle.cedar_tree.specs.declared.declaration.Declaration.TheVariants as declared;
 ghost use Rattle.cedar_tree.specs.declared.declaration.EntityDecl.TheVariants as standard;
 ghost use Rattle.cedar_plain.specs.Answers.{Gives};
 ghost use Rattle.cedar_plain.specs.Plain.{type_tree, attribute_tree, decl_tree};
-ghost use Rattle.cedar_plain.specs.Plainness.{each, plain_word, plain_path, plain_type, plain_attr, plain_attrs, plain_reference, plain_entities, plain_actions, plain_decl, plain_namespace, plain_decls};
+ghost use Rattle.cedar_plain.specs.Plainness.{each, plain_word, plain_path, plain_type, plain_attr, plain_attrs, plain_shape, plain_reference, plain_entities, plain_actions, plain_decl, plain_namespace, plain_decls};
 
 use crate::plain::{PlainDecl, PlainType};
 use cedar_data::{Boxed, Dup, Failure, Items, Mem, Out, Text};
 use cedar_names::{Id, Loc, Node, NonEmpty};
 use cedar_tree::{
-    ActionDecl, Annotated, AttrDecl, Declaration, EntityDecl, Namespace, Path, QualName, Schema,
-    StandardEntityDecl, Type,
+    ActionDecl, Annotated, AttrDecl, ContextDecl, Declaration, EntityDecl, Namespace, Path,
+    QualName, Schema, StandardEntityDecl, Type,
 };
 use std::alloc::Global;
 
@@ -186,6 +186,16 @@ fn plain_attrs(
     Ok(attributes)
 }
 
+/// The plain forms of the attributes of a shape.
+fn plain_shape(alloc: Global, shape: &ContextDecl) -> Plain<Items<(Text, PlainType)>>
+    ensures { Gives (map attribute_tree) result (plain_shape (tree.context_tree shape.now)) }
+{
+    match shape {
+        ContextDecl::Path(_) => Err(Failure::Refused(NotPlain)),
+        ContextDecl::Record(attrs) => plain_attrs(alloc, &attrs.node),
+    }
+}
+
 /// The names of entity types.
 fn type_names(alloc: Global, names: &NonEmpty<Node<Id>>) -> Mem<Items<Id>>
     ensures { IfOk result (λ ids. id_words ids ≡ map (λ n. n.node) (map (tree.node_of id_word) (elements names.now))) }
@@ -208,7 +218,7 @@ fn plain_entities(alloc: Global, decl: &StandardEntityDecl) -> Plain<PlainDecl>
         return Err(Failure::Refused(NotPlain));
     }
     let parents = type_parents(alloc, &decl.member_of_types)?;
-    let attrs = plain_attrs(alloc, &decl.attrs.node)?;
+    let attrs = plain_shape(alloc, &decl.attrs)?;
     let names = type_names(alloc, &decl.names)?;
     Ok(PlainDecl::Entity {
         names,

@@ -9,10 +9,10 @@ use Rattle.cedar_tokens.specs.declared.lexeme.Lexeme.{Lexeme}
 use Rattle.cedar_tree.specs.declared.annotated.Annotated as noted
 use Rattle.cedar_tree.specs.declared.declaration.Namespace as declared
 use Rattle.cedar_grammar.specs.Grammar.{Reads, Viable}
-use Rattle.cedar_grammar.specs.Meanings.{schema_tree}
+use Rattle.cedar_tree.specs.Meanings.{schema_tree}
 use Rattle.cedar_grammar.specs.Reading.{schema_at}
 use Rattle.cedar_grammar.specs.Stops.{Finds}
-use Rattle.cedar_grammar.specs.Trees.{Schema}
+use Rattle.cedar_tree.specs.Trees.{Schema}
 use Rattle.cedar_parser.specs.Giving.{Gives}
 use Rattle.cedar_parser.specs.declared.fault.Fault.{Fault}
 use Rattle.cedar_syntax.specs.Causes.{AcceptsAs}

@@ -1,6 +1,5 @@
 -- SPDX-License-Identifier: Apache-2.0
 pub mod Completing
-pub mod DeepPlaces
 pub mod GoingBack
 pub mod Rules
 pub mod Straying

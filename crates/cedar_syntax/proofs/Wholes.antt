@@ -9,10 +9,11 @@ use Rattle.cedar_tokens.specs.Lexemes.{TextToken, text_token}
 use Rattle.cedar_tokens.specs.Lexing.{Lexes}
 use Rattle.cedar_tokens.specs.declared.token.Token.{Token}
 use Rattle.cedar_grammar.specs.Grammar.{OpensAtMost, Reads, unclosed}
-use Rattle.cedar_grammar.specs.Trees.{Node, TypeTree, Schema, nest, outermost_types}
+use Rattle.cedar_tree.specs.Trees.{Node, TypeTree, Schema}
+use Rattle.cedar_tree.specs.Nesting.{nest, outermost_types, deep_place, NestsWell, nest_at_most}
 use Rattle.cedar_syntax.specs.Causes.{IsFirstTooMany, IsFirstTooDeep, IsTooDeep}
-use Rattle.cedar_syntax.specs.Steps.{TellsBrackets, deep_place}
-use Rattle.cedar_syntax.specs.Texts.{HasTokens, ReadsText, NestsWell, open_at_most, nest_at_most}
+use Rattle.cedar_syntax.specs.Steps.{TellsBrackets}
+use Rattle.cedar_syntax.specs.Texts.{HasTokens, ReadsText, open_at_most}
 
 -- a text has one list of tokens at most
 abbrev OneList : Type 0

@@ -20,10 +20,11 @@ use Rattle.cedar_tree.specs.declared.parse_error.ParseErrors.{ParseErrors}
 use Rattle.cedar_tree.specs.declared.parse_error.UserError.{UserError}
 use Rattle.cedar_tree.specs.declared.parse_error.UserError.TheVariants.{EmptyList, StringEscape, ReservedIdentifierUsed, DuplicateAnnotations}
 use Rattle.cedar_grammar.specs.Grammar.{Reads, Viable, OpensAtMost, unclosed, is_keyword, is_mark_token, is_word_token, is_str_kind, literal_body}
-use Rattle.cedar_grammar.specs.Meanings.{schema_tree}
+use Rattle.cedar_tree.specs.Meanings.{schema_tree}
 use Rattle.cedar_grammar.specs.Stops.{IsFirstStray, EndsEarly}
-use Rattle.cedar_grammar.specs.Trees.{Node, TypeTree, Schema, nest, outermost_types}
-use Rattle.cedar_syntax.specs.Texts.{HasTokens, ReadsText, open_at_most, nest_at_most}
+use Rattle.cedar_tree.specs.Trees.{Node, TypeTree, Schema}
+use Rattle.cedar_tree.specs.Nesting.{nest, outermost_types, nest_at_most}
+use Rattle.cedar_syntax.specs.Texts.{HasTokens, ReadsText, open_at_most}
 
 -- the token opens the first bracket at which too many are open
 pub record IsFirstTooMany (ts : List TextToken) (t : TextToken) : Type 0 where

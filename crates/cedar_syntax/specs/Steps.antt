@@ -1,6 +1,6 @@
 -- SPDX-License-Identifier: Apache-2.0
--- What the steps of the parser say: of brackets, of the nesting of types, of tokens, and of the token at which they stop being a schema.
-use Rattle.std.specs.Prelude.{◌≡◌, ℕ, nat_lt, if◌then◌else◌, List, [], ◌∷◌, Option, Some, None, Result, Ok, Err}
+-- What the steps of the parser say: of brackets, of tokens, and of the token at which they stop being a schema.
+use Rattle.std.specs.Prelude.{◌≡◌, ℕ, List, Option, Some, None, Result, Ok, Err}
 use Rattle.cedar_data.specs.declared.memory.Failure.{Failure}
 use Rattle.cedar_data.specs.declared.memory.Failure.TheVariants as failure
 use Rattle.cedar_text.specs.declared.location.Span.{Span}
@@ -17,12 +17,11 @@ use Rattle.cedar_tree.specs.declared.parse_error.ParseErrorKind.{ParseErrorKind}
 use Rattle.cedar_tree.specs.declared.parse_error.ParseErrorKind.TheVariants.{InvalidToken}
 use Rattle.cedar_tree.specs.declared.parse_error.UserError.{UserError}
 use Rattle.cedar_grammar.specs.Grammar.{Reads, OpensAtMost}
-use Rattle.cedar_grammar.specs.Meanings.{schema_tree}
+use Rattle.cedar_tree.specs.Meanings.{schema_tree}
 use Rattle.cedar_grammar.specs.Stops.{Finds}
-use Rattle.cedar_grammar.specs.Trees.{Node, TypeTree, nest}
 use Rattle.cedar_parser.specs.declared.fault.Fault.{Fault}
 use Rattle.cedar_syntax.specs.Causes.{Cause, IsFirstTooMany, HasBadEscape, IsRepeatedKey, IsNoRepeat, IsReservedWord, StraysBy}
-use Rattle.cedar_syntax.specs.Texts.{ReadsText, open_at_most, nest_at_most}
+use Rattle.cedar_syntax.specs.Texts.{ReadsText, open_at_most}
 
 -- the error says that no token begins at a place of the text
 pub record IsInvalid (text : List ℕ) (error : ParseError) : Type 0 where
@@ -35,11 +34,6 @@ pub record IsInvalid (text : List ℕ) (error : ParseError) : Type 0 where
 abbrev pub TellsBrackets : List TextToken → Option Span → Type 0
 TellsBrackets ts None = OpensAtMost open_at_most ts
 TellsBrackets ts (Some span) = (t : TextToken) × IsFirstTooMany ts t × (span ≡ span_of t.loc)
-
--- the place of the first of these types that nests too deep
-abbrev pub deep_place : List (Node TypeTree) → Option Span
-deep_place [] = None
-deep_place (t ∷ ts) = if nat_lt nest_at_most (nest t.node) then Some (span_of t.loc) else deep_place ts
 
 -- what is said of tokens: the schema that they are, or how many are left where they stop being one
 abbrev pub TellsReading : List TextToken → Result (List (noted.Annotated declared.Namespace)) (Failure Fault) → Type 0

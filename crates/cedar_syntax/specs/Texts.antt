@@ -1,11 +1,12 @@
 -- SPDX-License-Identifier: Apache-2.0
 -- Which texts are a schema.
-use Rattle.std.specs.Prelude.{◌≡◌, ℕ, ◌≤◌, List, All, map}
+use Rattle.std.specs.Prelude.{◌≡◌, ℕ, List, map}
 use Rattle.cedar_tokens.specs.Lexemes.{TextToken, text_token}
 use Rattle.cedar_tokens.specs.Lexing.{Lexes}
 use Rattle.cedar_tokens.specs.declared.token.Token.{Token}
 use Rattle.cedar_grammar.specs.Grammar.{Reads, OpensAtMost}
-use Rattle.cedar_grammar.specs.Trees.{Schema, nest, outermost_types}
+use Rattle.cedar_tree.specs.Trees.{Schema}
+use Rattle.cedar_tree.specs.Nesting.{NestsWell}
 
 -- the text is blanks, comments and these tokens
 abbrev pub HasTokens : List ℕ → List TextToken → Type 0
@@ -14,14 +15,6 @@ HasTokens text ts = (tokens : List Token) × Lexes text tokens × (ts ≡ map (t
 -- how many `{` and `<` may be open at one place of a text
 abbrev pub open_at_most : ℕ
 open_at_most = 130
-
--- how many sets and records may stand inside one another in a type
-abbrev pub nest_at_most : ℕ
-nest_at_most = 128
-
--- no outermost type of a schema nests too deep
-abbrev pub NestsWell : Schema → Type 0
-NestsWell s = All (λ t. nest t.node ≤ nest_at_most) (outermost_types s)
 
 -- the text is this schema: its tokens are, nowhere are too many brackets open, and no type nests too deep
 pub record ReadsText (text : List ℕ) (s : Schema) : Type 0 where

@@ -5,7 +5,6 @@
 mod brackets;
 mod causes;
 mod lexing;
-mod nesting;
 mod parsing;
 mod reading;
 mod repeats;

@@ -1,6 +1,6 @@
 // SPDX-License-Identifier: Apache-2.0
 ghost use Rattle.std.specs.Prelude.{map};
-ghost use Rattle.cedar_grammar.specs.Trees.{Schema as SchemaTree};
+ghost use Rattle.cedar_tree.specs.Trees.{Schema as SchemaTree};
 ghost use Rattle.cedar_tokens.specs.Lexemes.{lexeme_token};
 ghost use Rattle.cedar_syntax.specs.Texts.{HasTokens, ReadsText};
 ghost use Rattle.cedar_syntax.specs.Causes.{Answers, AcceptsAs};
@@ -9,11 +9,10 @@ ghost use Rattle.cedar_syntax.specs.Steps.{TellsText};
 use crate::brackets::first_too_many;
 use crate::causes::stop_kind;
 use crate::lexing::tokens;
-use crate::nesting::first_too_deep;
 use crate::reading::read_tokens;
 use cedar_data::{Dup, Failure, Mem, Out, Text};
 use cedar_tokens::{Lexeme, lexemes, one_token_list};
-use cedar_tree::{ParseError, ParseErrorKind, ParseErrors, Schema};
+use cedar_tree::{ParseError, ParseErrorKind, ParseErrors, Schema, first_too_deep};
 use std::alloc::Global;
 
 /// The schema that a source with these tokens is, or why it is none.

@@ -1,7 +1,7 @@
 // SPDX-License-Identifier: Apache-2.0
 ghost use Rattle.std.specs.Prelude.{◌↔◌, ◌++◌, [], ◌∷◌, map, IsTrue, IfOk};
 ghost use Rattle.cedar_grammar.specs.Grammar.{Reads, Viable};
-ghost use Rattle.cedar_grammar.specs.Trees.{Schema as SchemaTree};
+ghost use Rattle.cedar_tree.specs.Trees.{Schema as SchemaTree};
 ghost use Rattle.cedar_tokens.specs.Lexemes.{lexeme_token};
 ghost use Rattle.cedar_syntax.specs.Causes.{AcceptsAs};
 ghost use Rattle.cedar_syntax.specs.Steps.{TellsReading};

@@ -3,4 +3,7 @@ pub use Rattle.cedar_data.specs.formers
 pub mod Annotating
 pub mod Declarations
 pub mod Faults
+pub mod Meanings
+pub mod Nesting
 pub mod Paths
+pub mod Trees

@@ -57,16 +57,16 @@ pub enum EntityDecl {
     Enum(EnumEntityDecl),
 }
 
-/// Entity types with the same parents, attributes and type of tags.
+/// Entity types with the same parents, shape and type of tags.
 #[derive(Debug, Drop, PartialEq, Eq)]
 pub struct StandardEntityDecl {
     /// The names in the order of the text, each at its place.
     pub names: NonEmpty<Node<Id>>,
     /// The types behind `in`, in the order of the text; none where there is no `in`, or `in []`.
     pub member_of_types: Items<Path>,
-    /// The attributes in the order of the text, at the place of the record from `{` to `}`, without `=`. Where no record
-    /// is written, no attributes at an empty place: the start of `tags`, or else of `;`.
-    pub attrs: Node<Items<Node<Annotated<AttrDecl>>>>,
+    /// The shape: the name of a type, or a record, from `{` to `}`, without `=`. Where neither is written, a record without
+    /// attributes at an empty place: the start of `tags`, or else of `;`.
+    pub attrs: ContextDecl,
     /// The type behind `tags`, at its own place; none where there is no `tags`.
     pub tags: Option<Node<Type>>,
 }
@@ -99,7 +99,7 @@ pub struct PRAppDecl {
     pub entity_tys: Option<NonEmpty<Path>>,
 }
 
-/// The context of an action: the name of a type, or a record.
+/// The context of an action or the shape of entity types: the name of a type, or a record.
 #[derive(Debug, Drop, PartialEq, Eq)]
 pub enum ContextDecl {
     /// The name of a type.

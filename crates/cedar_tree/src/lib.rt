@@ -5,6 +5,7 @@
 mod annotated;
 mod copies;
 mod declaration;
+mod nesting;
 mod parse_error;
 mod path;
 mod ty;
@@ -14,6 +15,7 @@ pub use declaration::{
     ActionDecl, AppDecl, ContextDecl, Decl, Declaration, EntityDecl, EnumEntityDecl, Namespace, PR,
     PRAppDecl, Schema, StandardEntityDecl, TypeDecl,
 };
+pub use nesting::first_too_deep;
 pub use parse_error::{ParseError, ParseErrorKind, ParseErrors, UserError};
 pub use path::{Path, PathIntoIter, PathIter, QualName};
 pub use ty::{AttrDecl, BUILTIN_TYPES, PrimitiveType, Type};

@@ -1,6 +1,6 @@
 -- SPDX-License-Identifier: Apache-2.0
 use Rattle.std.proofs.Common.{subst, sym, List, ℕ, Option}
-use Rattle.cedar_grammar.specs.Meanings.{node_of}
+use Rattle.cedar_tree.specs.Meanings.{node_of}
 use Rattle.cedar_text.specs.Lists.{elements}
 use Rattle.cedar_plain.specs.Answers.{Gives}
 use Rattle.cedar_plain.specs.Plainness.{plain_word}

@@ -1,6 +1,6 @@
 -- SPDX-License-Identifier: Apache-2.0
 use Rattle.std.proofs.Common.{map, drop}
-use Rattle.cedar_grammar.specs.Meanings.{namespace_tree}
+use Rattle.cedar_tree.specs.Meanings.{namespace_tree}
 use Rattle.cedar_plain.specs.Plain.{decl_tree}
 use Rattle.cedar_plain.specs.Plainness.{each, plain_namespace}
 use Rattle.cedar_plain.proofs.Loops.{Reached, behind, plain_declaration}

@@ -1,7 +1,7 @@
 -- SPDX-License-Identifier: Apache-2.0
 use Rattle.std.proofs.Common.{arith, ap, sym}
 use Rattle.std.proofs.lemmas.Result.{err_from_is_err_and}
-use Rattle.cedar_grammar.specs.Meanings.{schema_tree}
+use Rattle.cedar_tree.specs.Meanings.{schema_tree}
 use Rattle.cedar_plain.specs.Plainness.{plain_decls}
 use Rattle.cedar_plain.proofs.Loops.{reached_start, spaces_end, spaces_more, spaces_none, Refuses-along}
 use Rattle.cedar_plain.proofs.plainness.plain_declarations.Goals as goal

@@ -1,6 +1,6 @@
 -- SPDX-License-Identifier: Apache-2.0
 use Rattle.std.proofs.Common.{◌≡◌, ◌∷◌, map, take}
-use Rattle.cedar_grammar.specs.Meanings.{node_of}
+use Rattle.cedar_tree.specs.Meanings.{node_of}
 use Rattle.cedar_names.specs.Identifiers.{id_word, id_words}
 use Rattle.cedar_plain.proofs.plainness.type_names.Given as goal
 

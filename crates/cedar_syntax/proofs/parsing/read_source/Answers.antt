@@ -1,8 +1,8 @@
 -- SPDX-License-Identifier: Apache-2.0
 use Rattle.std.proofs.Common.{◌≡◌, map, subst, sym}
-use Rattle.cedar_grammar.specs.Meanings.{schema_tree}
+use Rattle.cedar_tree.specs.Meanings.{schema_tree}
 use Rattle.cedar_tokens.specs.Lexemes.{lexeme_token}
-use Rattle.cedar_syntax.specs.Texts.{NestsWell}
+use Rattle.cedar_tree.specs.Nesting.{NestsWell}
 use Rattle.cedar_syntax.proofs.Wholes.{reads_here, too_many, none_too_many, nests_well, too_deep, none_too_deep}
 use Rattle.cedar_syntax.proofs.parsing.read_source.Goals as goal
 

@@ -1,17 +1,17 @@
 // SPDX-License-Identifier: Apache-2.0
 ghost use Rattle.std.specs.Prelude.{◌≡◌, [], ◌∷◌, nat_lt};
 ghost use Rattle.std.specs.List.{flat_map};
-ghost use Rattle.cedar_grammar.specs.Meanings.{action_tree, app_tree, attrs_tree, annotated_tree, decl_tree, entity_tree, namespace_tree, node_of, schema_tree, type_tree};
-ghost use Rattle.cedar_grammar.specs.Trees.{Record, Action, Entity, greatest_nest, nest, outermost_types, types_of_app, types_of_decl, types_of_namespace};
-ghost use Rattle.cedar_syntax.specs.Steps.{deep_place};
-ghost use Rattle.cedar_syntax.specs.Texts.{nest_at_most};
+ghost use Rattle.cedar_tree.specs.Meanings.{action_tree, app_tree, attrs_tree, annotated_tree, context_tree, decl_tree, entity_tree, namespace_tree, node_of, schema_tree, type_tree};
+ghost use Rattle.cedar_tree.specs.Trees.{Record, Action, Entity};
+ghost use Rattle.cedar_tree.specs.Nesting.{greatest_nest, nest, outermost_types, types_of_app, types_of_decl, types_of_namespace, types_of_shape, deep_place, nest_at_most};
 
+use crate::annotated::Annotated;
+use crate::declaration::{
+    ActionDecl, AppDecl, ContextDecl, Declaration, EntityDecl, Namespace, Schema,
+};
+use crate::ty::{AttrDecl, Type};
 use cedar_data::Items;
 use cedar_names::{Node, Span};
-use cedar_tree::{
-    ActionDecl, Annotated, AppDecl, AttrDecl, ContextDecl, Declaration, EntityDecl, Namespace,
-    Schema, Type,
-};
 
 /// How many sets and records may stand inside one another in a type.
 const NEST_AT_MOST: usize = 128;
@@ -63,13 +63,23 @@ fn deep_record(attrs: &Node<Items<Node<Annotated<AttrDecl>>>>) -> Option<Span>
     }
 }
 
+/// The place of the record of a context or a shape, if it nests too deep.
+fn deep_shape(shape: &ContextDecl) -> Option<Span>
+    ensures { result ≡ deep_place (types_of_shape (context_tree shape.now)) }
+{
+    match shape {
+        ContextDecl::Path(_) => None,
+        ContextDecl::Record(attrs) => deep_record(attrs),
+    }
+}
+
 /// The place of the first type of a declaration of entity types that nests too deep.
 fn deep_in_entity(decl: &EntityDecl) -> Option<Span>
     ensures { result ≡ deep_place (types_of_decl (Entity (entity_tree decl.now))) }
 {
     match decl {
         EntityDecl::Standard(decl) => {
-            if let Some(place) = deep_record(&decl.attrs) {
+            if let Some(place) = deep_shape(&decl.attrs) {
                 return Some(place);
             }
             match &decl.tags {
@@ -86,8 +96,8 @@ fn deep_in_app(app: &AppDecl) -> Option<Span>
     ensures { result ≡ deep_place (types_of_app (app_tree app.now)) }
 {
     match app {
-        AppDecl::Context(ContextDecl::Record(attrs)) => deep_record(attrs),
-        _ => None,
+        AppDecl::PR(_) => None,
+        AppDecl::Context(shape) => deep_shape(shape),
     }
 }
 

@@ -1,9 +1,9 @@
 -- SPDX-License-Identifier: Apache-2.0
 use Rattle.std.proofs.Common.{◌∙◌, sym, arith}
-use Rattle.cedar_grammar.specs.Meanings.{annotated_tree, namespace_tree}
-use Rattle.cedar_grammar.specs.Trees.{types_of_namespace}
-use Rattle.cedar_syntax.proofs.DeepPlaces.{deep_found, deep_on, deep_end, schema_types}
-use Rattle.cedar_syntax.proofs.nesting.first_too_deep.Goals as goal
+use Rattle.cedar_tree.specs.Meanings.{annotated_tree, namespace_tree}
+use Rattle.cedar_tree.specs.Nesting.{types_of_namespace}
+use Rattle.cedar_tree.proofs.DeepPlaces.{deep_found, deep_on, deep_end, schema_types}
+use Rattle.cedar_tree.proofs.nesting.first_too_deep.Goals as goal
 
 pub returns-in-Some : goal.returns-in-Some
 returns-in-Some c =

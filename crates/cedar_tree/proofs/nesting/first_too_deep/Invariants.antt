@@ -1,10 +1,9 @@
 -- SPDX-License-Identifier: Apache-2.0
 use Rattle.std.proofs.Common.{◌≡◌, drop}
 use Rattle.std.specs.List.{flat_map}
-use Rattle.cedar_grammar.specs.Meanings.{annotated_tree, namespace_tree}
-use Rattle.cedar_grammar.specs.Trees.{types_of_namespace}
-use Rattle.cedar_syntax.specs.Steps.{deep_place}
-use Rattle.cedar_syntax.proofs.nesting.first_too_deep.Given as goal
+use Rattle.cedar_tree.specs.Meanings.{annotated_tree, namespace_tree}
+use Rattle.cedar_tree.specs.Nesting.{types_of_namespace, deep_place}
+use Rattle.cedar_tree.proofs.nesting.first_too_deep.Given as goal
 
 -- the first of the types of the namespaces that are left is the first of all
 abbrev pub invariant-loop-namespace : goal.invariant-loop-namespace

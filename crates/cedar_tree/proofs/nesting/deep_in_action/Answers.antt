@@ -1,6 +1,6 @@
 -- SPDX-License-Identifier: Apache-2.0
-use Rattle.cedar_syntax.proofs.DeepPlaces.{action_types}
-use Rattle.cedar_syntax.proofs.nesting.deep_in_action.Goals as goal
+use Rattle.cedar_tree.proofs.DeepPlaces.{action_types}
+use Rattle.cedar_tree.proofs.nesting.deep_in_action.Goals as goal
 
 pub returns-in_default : goal.returns-in_default
 returns-in_default c =

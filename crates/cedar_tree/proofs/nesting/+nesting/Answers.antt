@@ -1,9 +1,9 @@
 -- SPDX-License-Identifier: Apache-2.0
 use Rattle.std.proofs.Common.{◌+◌, ◌||◌, ◌∙◌, sym, ap, drop, nat_lt}
-use Rattle.cedar_grammar.specs.Meanings.{attrs_tree}
-use Rattle.cedar_grammar.specs.Trees.{greatest_nest}
-use Rattle.cedar_syntax.proofs.DeepPlaces.{past_record, past_step}
-use Rattle.cedar_syntax.proofs.nesting.+nesting.Goals as goal
+use Rattle.cedar_tree.specs.Meanings.{attrs_tree}
+use Rattle.cedar_tree.specs.Nesting.{greatest_nest}
+use Rattle.cedar_tree.proofs.DeepPlaces.{past_record, past_step}
+use Rattle.cedar_tree.proofs.nesting.+nesting.Goals as goal
 
 pub nests_past-returns-else-limit-eq0-2 : goal.nests_past-returns-else-limit-eq0-2
 nests_past-returns-else-limit-eq0-2 t c = c.any_nests_past.ensures ∙ past_record c.args.limit c.args.ty.now c.in-Record.attrs c.if-limit-eq0-2.false c.in-Record.is

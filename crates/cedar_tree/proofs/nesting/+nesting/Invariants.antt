@@ -1,8 +1,8 @@
 -- SPDX-License-Identifier: Apache-2.0
 use Rattle.std.proofs.Common.{◌≡◌, drop, nat_lt}
-use Rattle.cedar_grammar.specs.Meanings.{attrs_tree}
-use Rattle.cedar_grammar.specs.Trees.{greatest_nest}
-use Rattle.cedar_syntax.proofs.nesting.+nesting.Given as goal
+use Rattle.cedar_tree.specs.Meanings.{attrs_tree}
+use Rattle.cedar_tree.specs.Nesting.{greatest_nest}
+use Rattle.cedar_tree.proofs.nesting.+nesting.Given as goal
 
 -- some attribute nests too deep exactly where one of those that are left does
 abbrev pub invariant-any_nests_past-loop-attr : goal.invariant-any_nests_past-loop-attr

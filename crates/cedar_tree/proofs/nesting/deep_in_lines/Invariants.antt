@@ -1,10 +1,9 @@
 -- SPDX-License-Identifier: Apache-2.0
 use Rattle.std.proofs.Common.{◌≡◌, drop}
 use Rattle.std.specs.List.{flat_map}
-use Rattle.cedar_grammar.specs.Meanings.{app_tree}
-use Rattle.cedar_grammar.specs.Trees.{types_of_app}
-use Rattle.cedar_syntax.specs.Steps.{deep_place}
-use Rattle.cedar_syntax.proofs.nesting.deep_in_lines.Given as goal
+use Rattle.cedar_tree.specs.Meanings.{app_tree}
+use Rattle.cedar_tree.specs.Nesting.{types_of_app, deep_place}
+use Rattle.cedar_tree.proofs.nesting.deep_in_lines.Given as goal
 
 -- the first of the types of the lines that are left is the first of all
 abbrev pub invariant-loop-line : goal.invariant-loop-line

@@ -19,10 +19,9 @@ use Rattle.cedar_tree.specs.declared.ty.AttrDecl as attribute
 use Rattle.cedar_tree.specs.declared.ty.AttrDecl.{fold_out-AttrDecl, map-AttrDecl}
 use Rattle.cedar_tree.specs.declared.ty.«Type».{«Type», «fold_out-Type», «map-Type»}
 use Rattle.cedar_tree.specs.declared.ty.«Type».TheVariants as made
-use Rattle.cedar_syntax.specs.Steps.{deep_place}
-use Rattle.cedar_syntax.specs.Texts.{nest_at_most}
-use Rattle.cedar_grammar.specs.Trees.{TypeTree, Record, attr, AttrDecl, Action, outermost_types, types_of_app, types_of_decl, types_of_namespace, attrs_of, nest, greatest_nest}
-use Rattle.cedar_grammar.specs.Meanings.{node_of, annotations_tree, annotated_tree, app_tree, action_tree, decl_tree, namespace_tree, schema_tree, type_level, attr_level, type_tree, attr_tree, attrs_tree, attr_node}
+use Rattle.cedar_tree.specs.Nesting.{deep_place, nest_at_most, outermost_types, types_of_app, types_of_decl, types_of_namespace, nest, greatest_nest}
+use Rattle.cedar_tree.specs.Trees.{TypeTree, Record, attr, AttrDecl, Action, attrs_of}
+use Rattle.cedar_tree.specs.Meanings.{node_of, annotations_tree, annotated_tree, app_tree, action_tree, decl_tree, namespace_tree, schema_tree, type_level, attr_level, type_tree, attr_tree, attrs_tree, attr_node}
 
 -- attributes whose types are trees already are the trees of the attributes
 nodes_mapped : (attrs : List (Node (noted.Annotated attribute.AttrDecl)))

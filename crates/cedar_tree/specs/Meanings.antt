@@ -29,7 +29,7 @@ use Rattle.cedar_tree.specs.declared.ty.AttrDecl as attribute
 use Rattle.cedar_tree.specs.declared.ty.AttrDecl.{fold-AttrDecl, AttrDecl-F}
 use Rattle.cedar_tree.specs.declared.ty.«Type».{«Type», «Type-F», «fold-Type»}
 use Rattle.cedar_tree.specs.declared.ty.«Type».TheOpen as level
-use Rattle.cedar_grammar.specs.Trees.{Node, Place, Text, Path, ByKey, Annotated, TypeTree, Set, Ident, Record, Attrs, AttrDecl, attrs_of, EntityDecl, Standard, Enum, PR, Principal, Resource, ContextDecl, Named, Shape, AppDecl, Types, Context, QualName, ActionDecl, TypeDecl, Declaration, Entity, Action, Common, Namespace, Schema}
+use Rattle.cedar_tree.specs.Trees.{Node, Place, Text, Path, ByKey, Annotated, TypeTree, Set, Ident, Record, Attrs, AttrDecl, attrs_of, EntityDecl, Standard, Enum, PR, Principal, Resource, ContextDecl, Named, Shape, AppDecl, Types, Context, QualName, ActionDecl, TypeDecl, Declaration, Entity, Action, Common, Namespace, Schema}
 
 -- the place of a piece, if it has one; else the empty one of no text
 abbrev pub place_where : Option Place → Place
@@ -91,12 +91,17 @@ attrs_tree attrs = attrs_of (map (attr_node attr_tree) attrs)
 abbrev pub qual_tree : reference.QualName → QualName
 qual_tree q = record { path = option_map path_tree q.path; eid = q.eid }
 
+-- a context, or the shape of entity types
+abbrev pub context_tree : context.ContextDecl → ContextDecl
+context_tree (contexts.Path path) = Named (path_tree path)
+context_tree (contexts.Record attrs) = Shape (node_of attrs_tree attrs)
+
 -- a declaration of entity types
 abbrev pub entity_tree : entity.EntityDecl → EntityDecl
 entity_tree (entities.Standard d) = Standard (record {
   names = map (node_of id_word) (elements d.names);
   member_of_types = map path_tree d.member_of_types;
-  attrs = node_of attrs_tree d.attrs;
+  attrs = context_tree d.attrs;
   tags = option_map (node_of type_tree) d.tags;
 })
 entity_tree (entities.Enum d) = Enum (record {
@@ -108,11 +113,6 @@ entity_tree (entities.Enum d) = Enum (record {
 abbrev pub scope_tree : scope.PR → PR
 scope_tree scopes.Principal = Principal
 scope_tree scopes.Resource = Resource
-
--- a context
-abbrev pub context_tree : context.ContextDecl → ContextDecl
-context_tree (contexts.Path path) = Named (path_tree path)
-context_tree (contexts.Record attrs) = Shape (node_of attrs_tree attrs)
 
 -- a line of `appliesTo`
 abbrev pub app_tree : app.AppDecl → AppDecl

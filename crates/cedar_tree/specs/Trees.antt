@@ -1,6 +1,6 @@
 -- SPDX-License-Identifier: Apache-2.0
 -- What a schema says, with the places of its pieces.
-use Rattle.std.specs.Prelude.{ℕ, ◌+◌, max, Bool, List, [], ◌∷◌, map, Option, option_to_list, flat_map}
+use Rattle.std.specs.Prelude.{ℕ, Bool, List, [], ◌∷◌, map, Option}
 use Rattle.cedar_data.specs.Maps.{map_of}
 use Rattle.cedar_names.specs.Order.{word_cmp}
 use Rattle.cedar_text.specs.declared.location.Loc.{Loc}
@@ -82,11 +82,16 @@ abbrev pub attrs_of : List (Annotated (Node AttrDecl)) → Attrs
 attrs_of [] = no_attrs
 attrs_of (a ∷ others) = attr a.annotations a.item.node.name a.item.node.required a.item.node.ty.node a.item.node.ty.loc a.item.loc (attrs_of others)
 
+-- what a context or the shape of entity types is: the name of a type, or attributes
+pub data ContextDecl : Type 0 where
+  Named : Path → ContextDecl
+  Shape : Node Attrs → ContextDecl
+
 -- `entity a, b in [c] { .. } tags t;`
 pub record StandardEntityDecl : Type 0 where
   pub names : List (Node Text)
   pub member_of_types : List Path
-  pub attrs : Node Attrs
+  pub attrs : ContextDecl
   pub tags : Option (Node TypeTree)
 
 -- `entity a, b enum ["x", "y"];`
@@ -103,11 +108,6 @@ pub data EntityDecl : Type 0 where
 pub data PR : Type 0 where
   Principal : PR
   Resource : PR
-
--- what a context is: the name of a type, or attributes
-pub data ContextDecl : Type 0 where
-  Named : Path → ContextDecl
-  Shape : Node Attrs → ContextDecl
 
 -- a line of `appliesTo`
 pub data AppDecl : Type 0 where
@@ -147,36 +147,3 @@ pub record Namespace : Type 0 where
 -- namespaces with their annotations, in the order of the text
 abbrev pub Schema : Type 0
 Schema = List (Annotated Namespace)
-
--- how deep a type nests: a name not at all, else one more than the greatest of its parts
-abbrev mutual
-  pub nest : TypeTree → ℕ
-  nest (Set element place) = nest element + 1
-  nest (Ident name) = 0
-  nest (Record attrs) = greatest_nest attrs + 1
-
-  -- the greatest nest of some attributes, 0 where there are none
-  pub greatest_nest : Attrs → ℕ
-  greatest_nest no_attrs = 0
-  greatest_nest (attr annotations name required ty place own others) = max (nest ty) (greatest_nest others)
-
--- the record of a context
-abbrev pub types_of_app : AppDecl → List (Node TypeTree)
-types_of_app (Types which names) = []
-types_of_app (Context (Named name)) = []
-types_of_app (Context (Shape r)) = record { node = Record r.node; loc = r.loc } ∷ []
-
--- the record and the tags of entity types, the records of contexts, and a type that is given a name
-abbrev pub types_of_decl : Declaration → List (Node TypeTree)
-types_of_decl (Entity (Standard e)) = record { node = Record e.attrs.node; loc = e.attrs.loc } ∷ option_to_list e.tags
-types_of_decl (Entity (Enum e)) = []
-types_of_decl (Action a) = flat_map (λ d. types_of_app d.node) (flat_map (λ apps. apps.node) (option_to_list a.app_decls))
-types_of_decl (Common t) = t.def ∷ []
-
--- those of the declarations of a namespace
-abbrev pub types_of_namespace : Annotated Namespace → List (Node TypeTree)
-types_of_namespace n = flat_map (λ d. types_of_decl d.item.node) n.item.decls
-
--- the outermost types of a schema, in the order of the text; the record of an entity type is one of them also where none stands
-abbrev pub outermost_types : Schema → List (Node TypeTree)
-outermost_types s = flat_map types_of_namespace s

@@ -1,10 +1,9 @@
 -- SPDX-License-Identifier: Apache-2.0
 use Rattle.std.proofs.Common.{◌≡◌, drop}
 use Rattle.std.specs.List.{flat_map}
-use Rattle.cedar_grammar.specs.Meanings.{decl_tree}
-use Rattle.cedar_grammar.specs.Trees.{types_of_decl}
-use Rattle.cedar_syntax.specs.Steps.{deep_place}
-use Rattle.cedar_syntax.proofs.nesting.deep_in_namespace.Given as goal
+use Rattle.cedar_tree.specs.Meanings.{decl_tree}
+use Rattle.cedar_tree.specs.Nesting.{types_of_decl, deep_place}
+use Rattle.cedar_tree.proofs.nesting.deep_in_namespace.Given as goal
 
 -- the first of the types of the declarations that are left is the first of all
 abbrev pub invariant-loop-decl : goal.invariant-loop-decl
