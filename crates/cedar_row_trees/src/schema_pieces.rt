@@ -71,16 +71,28 @@ fn add_entity(lines: &mut Lines, entity: &StandardEntityDecl) -> Mem<()> {
     for parent in entity.member_of_types.as_slice() {
         add_path(lines, 2, parent)?;
     }
-    let loc = &entity.attrs.loc;
-    let is_written = loc.start < loc.end;
-    let record = if is_written { "record" } else { "no record" };
-    lines.add_at(2, loc, record)?;
-    add_attributes(lines, 3, &entity.attrs.node)?;
+    add_shape(lines, &entity.attrs)?;
     if let Some(tags) = &entity.tags {
         lines.add_at(2, &tags.loc, "tags")?;
         add_type(lines, 3, &tags.node, &tags.loc)?;
     }
     Ok(())
+}
+
+/// Adds the shape of entity types: the name of a type, or a record, which may not be written.
+fn add_shape(lines: &mut Lines, shape: &ContextDecl) -> Mem<()> {
+    match shape {
+        ContextDecl::Path(path) => {
+            lines.add_at(2, path.loc(), "shape")?;
+            add_path(lines, 3, path)
+        }
+        ContextDecl::Record(record) => {
+            let is_written = record.loc.start < record.loc.end;
+            let form = if is_written { "record" } else { "no record" };
+            lines.add_at(2, &record.loc, form)?;
+            add_attributes(lines, 3, &record.node)
+        }
+    }
 }
 
 fn add_action(lines: &mut Lines, action: &ActionDecl) -> Mem<()> {
