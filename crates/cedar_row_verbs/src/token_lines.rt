@@ -1,21 +1,26 @@
 // SPDX-License-Identifier: Apache-2.0
 use cedar_data::{Failure, Mem, NoMemory};
-use cedar_tokens::{Lexeme, Token, TokenKind, lexemes};
+use cedar_tokens::{Lexeme, TokenKind, lexemes};
 use std::alloc::Global;
 
 /// `tokens`: each token of the input, with its kind, its place and its text; or where none begins.
 pub fn tokens(alloc: Global, _words: &[&str], input: &str) -> Mem<String> {
     match cedar_tokens::tokens(alloc, input) {
-        Ok(found) if found.is_empty() => Ok(format!(in alloc; "no tokens\n")?),
-        Ok(found) => tokens_told(alloc, input, found.as_slice()),
+        Ok(found) => {
+            let lexemes = lexemes(alloc, input, &found)?;
+            lexemes_told(alloc, lexemes.as_slice())
+        }
         Err(Failure::Refused(none)) => Ok(format!(in alloc; "no token at {}\n", none.location)?),
         Err(Failure::NoMemory) => Err(NoMemory),
     }
 }
 
-fn tokens_told(alloc: Global, input: &str, tokens: &[Token]) -> Mem<String> {
+fn lexemes_told(alloc: Global, lexemes: &[Lexeme<'_>]) -> Mem<String> {
+    if lexemes.is_empty() {
+        return Ok(format!(in alloc; "no tokens\n")?);
+    }
     let mut lines = String::new(alloc);
-    for lexeme in lexemes(alloc, input, tokens)?.iter() {
+    for lexeme in lexemes {
         let line = lexeme_told(alloc, lexeme)?;
         lines.push_str(line.as_str())?;
     }

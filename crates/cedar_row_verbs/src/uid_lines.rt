@@ -2,7 +2,7 @@
 use crate::refusals::refusal_line;
 use cedar_data::Mem;
 use cedar_names::EntityUID;
-use cedar_text::{quote_place, read_literal};
+use cedar_text::read_literal;
 use std::alloc::Global;
 
 /// `uid`: the entity that the input writes, its type and its id; or why it is refused.
@@ -23,11 +23,10 @@ fn uid_told(alloc: Global, uid: &EntityUID) -> Mem<String> {
 
 /// `literal`: what the literal stands for that begins at the first quote of the input; or why it is refused.
 pub fn literal(alloc: Global, _words: &[&str], input: &str) -> Mem<String> {
-    let (front, quoted) = input.split_at(quote_place(input));
-    if quoted.is_empty() {
+    let Some((front, inner)) = input.split_once('"') else {
         return Ok(format!(in alloc; "no quote\n")?);
-    }
-    match read_literal(alloc, front.len() + 1, quoted.split_at(1).1) {
+    };
+    match read_literal(alloc, front.len() + 1, inner) {
         Ok(text) => Ok(format!(in alloc; "text {text}\n")?),
         Err(failure) => refusal_line(alloc, failure),
     }
