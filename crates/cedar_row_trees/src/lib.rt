@@ -4,24 +4,24 @@
 #![tactic(auto)]
 
 mod annotating;
+mod declared_names;
 mod each_word;
 mod error_lines;
 mod lexing;
 mod lines;
-mod declared_names;
 mod paths;
 mod pieces;
-mod telling;
 mod schema_pieces;
+mod telling;
 mod types;
 
 pub use annotating::annotations;
 use cedar_data::Mem;
+pub use declared_names::names;
 pub use each_word::each;
 pub use error_lines::errors;
 pub use lexing::syntax_tokens;
 pub use lines::Lines;
-pub use declared_names::names;
 pub use paths::path;
 use std::alloc::Global;
 pub use telling::{tell, tree};
