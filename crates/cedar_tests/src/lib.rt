@@ -1,16 +1,21 @@
 // SPDX-License-Identifier: Apache-2.0
-//! Tests of the schema and of the program's work: worked examples as tables, each stream failing at
-//! each call, and each call that may want memory once with enough of it.
+//! Tests of what rows of text can't say of trees, errors and schemas: copies with their places, equality and order of
+//! values, and errors compared as values. All else stands as rows in `cedar_rows`.
 #![tactic(auto)]
 
 #[cfg(test)]
-mod faults;
-pub mod outcome;
+mod errors;
 #[cfg(test)]
-mod plain_calls;
+mod fixtures;
 #[cfg(test)]
-mod rows;
+mod lists_of_errors;
 #[cfg(test)]
-mod schema_calls;
+mod plain;
 #[cfg(test)]
-mod syntax_rows;
+mod refusals;
+#[cfg(test)]
+mod schemas;
+#[cfg(test)]
+mod trees;
+#[cfg(test)]
+mod types;

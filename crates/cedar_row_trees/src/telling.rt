@@ -1,0 +1,81 @@
+// SPDX-License-Identifier: Apache-2.0
+use crate::lines::Lines;
+use crate::schema_pieces::add_schema;
+use cedar_data::{Failure, Mem, NoMemory};
+use cedar_syntax::{ParseErrorKind, ParseErrors, UserError, parse_schema};
+use std::alloc::Global;
+
+/// Whether a text is a schema, or else why it is none, with the place.
+pub fn tell(alloc: Global, input: &str) -> Mem<String> {
+    let mut lines = Lines::new(alloc);
+    lines.add(told(alloc, input)?.as_str())?;
+    Ok(lines.into_text())
+}
+
+/// The pieces of a schema with their places, or else why the text is none.
+pub fn tree(alloc: Global, input: &str) -> Mem<String> {
+    let mut lines = Lines::new(alloc);
+    match parse_schema(alloc, input) {
+        Ok(schema) => add_schema(&mut lines, &schema)?,
+        Err(Failure::Refused(errors)) => lines.add(refusal_told(alloc, errors)?.as_str())?,
+        Err(Failure::NoMemory) => return Err(NoMemory),
+    }
+    Ok(lines.into_text())
+}
+
+/// What is said of a text: that it is a schema, or why it is none, with the place.
+pub fn told(alloc: Global, text: &str) -> Mem<String> {
+    match parse_schema(alloc, text) {
+        Ok(_schema) => Ok(String::from_str(alloc, "a schema")?),
+        Err(Failure::Refused(errors)) => refusal_told(alloc, errors),
+        Err(Failure::NoMemory) => Err(NoMemory),
+    }
+}
+
+/// What is said of the first of some errors.
+pub fn refusal_told(alloc: Global, errors: ParseErrors) -> Mem<String> {
+    kind_told(alloc, &errors.into_inner().head.kind)
+}
+
+/// What is said of an error.
+pub fn kind_told(alloc: Global, kind: &ParseErrorKind) -> Mem<String> {
+    match kind {
+        ParseErrorKind::InvalidToken { location } => {
+            Ok(format!(in alloc; "no token at {location}")?)
+        }
+        ParseErrorKind::UnrecognizedEof { location } => Ok(format!(in alloc;
+            "ends at {location}"
+        )?),
+        ParseErrorKind::UnrecognizedToken { span, token } => {
+            Ok(format!(in alloc; "{}..{} strays `{token}`", span.start, span.end)?)
+        }
+        ParseErrorKind::ExtraToken { span, token } => {
+            Ok(format!(in alloc; "{}..{} extra `{token}`", span.start, span.end)?)
+        }
+        ParseErrorKind::User(error) => rule_told(alloc, error),
+        ParseErrorKind::TooDeep { span } => {
+            Ok(format!(in alloc; "{}..{} too deep", span.start, span.end)?)
+        }
+    }
+}
+
+/// What is said of a rule that is broken.
+pub fn rule_told(alloc: Global, error: &UserError) -> Mem<String> {
+    match error {
+        UserError::EmptyList(span) => {
+            Ok(format!(in alloc; "{}..{} empty list", span.start, span.end)?)
+        }
+        UserError::StringEscape(span, bad) => {
+            Ok(format!(in alloc; "{}..{} bad escape at {}", span.start, span.end, bad.at)?)
+        }
+        UserError::ReservedIdentifierUsed(word) => {
+            let loc = &word.loc;
+            let word = &word.node;
+            Ok(format!(in alloc; "{}..{} reserved `{word}`", loc.start, loc.end)?)
+        }
+        UserError::DuplicateAnnotations(key, first, second) => Ok(format!(in alloc;
+            "{}..{} repeats `{key}` of {}..{}",
+            second.start, second.end, first.start, first.end
+        )?),
+    }
+}
