@@ -1,6 +1,7 @@
 // SPDX-License-Identifier: Apache-2.0
 use crate::fixtures::is_copied;
-use cedar_data::{Boxed, Dup, Items, Map, Set, Shared, Text};
+use cedar_data::{Boxed, Dup, Items, Map, Mem, Set, Shared, Text};
+use std::alloc::Global;
 use std::test::Fail;
 
 #[test]
@@ -29,19 +30,33 @@ fn boxes(rt: HostRuntime) -> Result<(), Fail> {
     Ok(())
 }
 
+/// The map from 1 to 11 and from 2 to 21, each put in place of another value.
+fn map(alloc: Global) -> Mem<Map<u32, u32>> {
+    let mut map = Map::new(alloc);
+    map.put(2, 20)?;
+    map.put(1, 10)?;
+    map.put(2, 21)?;
+    map.put(1, 11)?;
+    Ok(map)
+}
+
 #[test]
 fn maps(rt: HostRuntime) -> Result<(), Fail> {
-    let alloc = rt.alloc();
-    let mut map = Map::new(alloc);
-    assert_eq!(rt; map.insert(2u32, 20u32)?, None);
-    assert_eq!(rt; map.insert(1, 10)?, None);
-    assert_eq!(rt; map.insert(2, 21)?, Some(20));
-    map.put(1, 11)?;
+    let map = map(rt.alloc())?;
     assert_eq!(rt; map.len(), 2);
     assert_eq!(rt; map.get(&1).copied(), Some(11));
     assert_eq!(rt; map.get(&2).copied(), Some(21));
     assert_eq!(rt; map.get(&4).copied(), None);
-    assert!(rt; is_copied(alloc, &map)?);
+    assert!(rt; is_copied(rt.alloc(), &map)?);
+    Ok(())
+}
+
+#[test]
+fn maps_tell_what_stood(rt: HostRuntime) -> Result<(), Fail> {
+    let mut map = Map::new(rt.alloc());
+    assert_eq!(rt; map.insert(2u32, 20u32)?, None);
+    assert_eq!(rt; map.insert(1, 10)?, None);
+    assert_eq!(rt; map.insert(2, 21)?, Some(20));
     Ok(())
 }
 
