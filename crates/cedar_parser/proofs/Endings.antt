@@ -23,6 +23,7 @@ module _ (action : Node Text) where
           ≡ after (after (either a done (Err (length ts))) (λ semicolon. done (between action.loc semicolon.loc))) (λ loc. done (stands (Action d) loc))
       mark ts None = refl
       mark ts (Some p) = refl
+
       tail : (r : Result (Bool × List TextToken) ℕ)
           → after r (λ _. expect (a_mark (codes ";")) >>= λ semicolon. done (placed (Action d) action.loc semicolon.loc))
           ≡ after (after r (λ _. expect (a_mark (codes ";")) >>= λ semicolon. done (between action.loc semicolon.loc))) (λ loc. done (stands (Action d) loc))
@@ -40,6 +41,7 @@ module _ (action : Node Text) where
             ≡ after r (λ applies. ends_at (record { names = ns; parents = parents; app_decls = applies }))
         applies parents (Err n) = refl
         applies parents (Ok p) = one_end (record { names = ns; parents = parents; app_decls = p.0 }) p.1
+
         above : (r : Result (List (Node QualName) × List TextToken) ℕ)
             → after r (λ parents. applies_at type >>= λ applies. ends (record { names = ns; parents = parents; app_decls = applies }))
             ≡ after r (λ parents. applies_at type >>= λ applies. ends_at (record { names = ns; parents = parents; app_decls = applies }))

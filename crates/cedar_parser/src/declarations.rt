@@ -77,9 +77,10 @@ impl<'s> Parser<'s> {
         closing: Lexeme<'_>,
     ) -> Mem<Namespace>
         ensures { IfOk result (λ namespace. namespace_tree namespace ≡ record {
-            name = Some (path_tree name);
-            decls = map (annotated_tree (node_of decl_tree)) decls;
-            loc = Some (place_from self.now.source.now keyword.entry.start closing.entry.end) }) }
+          name = Some (path_tree name);
+          decls = map (annotated_tree (node_of decl_tree)) decls;
+          loc = Some (place_from self.now.source.now keyword.entry.start closing.entry.end);
+        }) }
     {
         let loc = Some(self.place(keyword.start, closing.end)?);
         let name = Some(name);

@@ -188,8 +188,9 @@ impl<'s> Parser<'s> {
         ty: Node<Type>,
     ) -> Mem<Attribute>
         ensures { IfOk result (λ attr. attr_node attr_tree attr ≡ record {
-            item = attr_of name question (node_of type_tree ty);
-            annotations = annotations_tree annotations }) }
+          item = attr_of name question (node_of type_tree ty);
+          annotations = annotations_tree annotations;
+        }) }
     {
         let loc = self.between(&name.loc, &ty.loc)?;
         let item = AttrDecl {
