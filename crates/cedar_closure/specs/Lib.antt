@@ -1,5 +1,4 @@
 -- SPDX-License-Identifier: Apache-2.0
-pub mod Sets
 pub mod Chains
 pub mod Marks
 pub mod Closure

@@ -8,6 +8,7 @@ mod reachable;
 mod tc_error;
 mod tc_node;
 
+pub use cedar_data::SetIter;
 pub use closure::compute_tc;
 pub use tc_error::TcError;
 pub use tc_node::{TcKey, TcNode};

@@ -1,6 +1,6 @@
 // SPDX-License-Identifier: Apache-2.0
-//! Tests of what rows of text can't say of trees, errors and schemas: copies with their places, equality and order of
-//! values, and errors compared as values. All else stands as rows in `cedar_rows`.
+//! Tests of what rows of text can't say of trees, errors, schemas and streams: copies with their places, equality and
+//! order of values, errors compared as values, and streams over std that fail. All else stands as rows in `cedar_rows`.
 #![tactic(auto)]
 
 #[cfg(test)]
@@ -15,6 +15,8 @@ mod plain;
 mod refusals;
 #[cfg(test)]
 mod schemas;
+#[cfg(test)]
+mod streams;
 #[cfg(test)]
 mod trees;
 #[cfg(test)]

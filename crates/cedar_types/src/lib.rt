@@ -5,5 +5,5 @@
 
 mod ty;
 
-pub use cedar_closure::{TcError, TcKey, TcNode, compute_tc};
+pub use cedar_closure::{SetIter, TcError, TcKey, TcNode, compute_tc};
 pub use ty::{AttrIter, AttributeType, Attributes, OpenTag, ResolvedType as Type, TypeView};

@@ -12,7 +12,7 @@ use Rattle.cedar_plain.specs.Plain.{type_tree}
 use Rattle.cedar_plain.specs.declared.plain.PlainType.{PlainType}
 use Rattle.cedar_names.specs.Identifiers.{id_word, id_words, unreserved_word}
 use Rattle.cedar_names.specs.declared.id.Id.{Id}
-use Rattle.cedar_validator.specs.Sets.{set_of}
+use Rattle.cedar_data.specs.Sets.{set_of}
 use Rattle.cedar_validator.specs.Shapes.{Kept, attribute_trees, shape_of, kept_shapes}
 use Rattle.cedar_validator.specs.Worlds.{id_cmp, unreserved_cmp}
 

@@ -9,7 +9,7 @@ use Rattle.cedar_names.specs.Order.{word_cmp}
 use Rattle.cedar_text.specs.Words.{has_word, primitive_words}
 use Rattle.cedar_plain.specs.Plain.{DeclTree, Entities, Actions, TypeTree, Named, SetOf}
 use Rattle.cedar_validator.specs.Descents.{Kin}
-use Rattle.cedar_validator.specs.Sets.{set_of}
+use Rattle.cedar_data.specs.Sets.{set_of}
 
 -- written attributes by name, in order; where a name stands twice, the last counts
 abbrev pub by_name : List (List ℕ × TypeTree) → List (List ℕ × TypeTree)

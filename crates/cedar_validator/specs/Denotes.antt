@@ -2,7 +2,7 @@
 -- The schema that declarations denote.
 use Rattle.std.specs.Prelude.{◌≡◌, ℕ, Bool, true, List, [], ◌∷◌, ◌⊎◌, codes, IsTrue}
 use Rattle.std.specs.List.{AllZip}
-use Rattle.cedar_closure.specs.Sets.{IsSetOf}
+use Rattle.cedar_data.specs.Sets.{IsSetOf}
 use Rattle.cedar_names.specs.EntityUids.{eid_text, eid_of, entity_type_of}
 use Rattle.cedar_names.specs.Names.{entity_words, entity_cmp}
 use Rattle.cedar_names.specs.declared.entity_uid.EntityUID.{EntityUID}

@@ -7,7 +7,6 @@ pub mod Descents
 pub mod NodeLaws
 pub mod Schemas
 pub mod Sameness
-pub mod Sets
 pub mod Shapes
 pub mod Texts
 pub mod UndefinedWords

@@ -16,6 +16,7 @@ mod uniqueness;
 mod world;
 
 pub use action::ValidatorActionId;
+pub use cedar_data::SetIter;
 pub use errors::CedarSchemaError;
 pub use schema::{ActionIter, EntityIter, ValidatorEntityType, ValidatorSchema};
 pub use uniqueness::one_schema;

@@ -8,7 +8,7 @@ ghost use Rattle.cedar_text.specs.Failures.{IfRefused};
 ghost use Rattle.cedar_text.specs.Words.{has_word};
 ghost use Rattle.cedar_plain.specs.Plain.{Entities, Actions, type_tree, attribute_tree, decl_tree};
 ghost use Rattle.cedar_validator.specs.Declarations.{by_name, word_of, type_words, kept_names, is_unbuilt, entity_shapes, action_parents, shapes, actions};
-ghost use Rattle.cedar_validator.specs.Sets.{set_of};
+ghost use Rattle.cedar_data.specs.Sets.{set_of};
 ghost use Rattle.cedar_validator.specs.Shapes.{attribute_trees, kept_shapes};
 ghost use Rattle.cedar_validator.specs.declared.errors.CedarSchemaError.TheVariants.{NotBuilt};
 
