@@ -1,6 +1,4 @@
 -- SPDX-License-Identifier: Apache-2.0
-pub use Rattle.cedar_tree.specs.Meanings
-pub use Rattle.cedar_tree.specs.Trees
 pub mod Grammar
 pub mod Identifying
 pub mod Productions

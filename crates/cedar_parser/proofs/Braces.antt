@@ -3,7 +3,7 @@
 use Rattle.std.proofs.Common.{◌≡◌, ℕ, ◌<◌, List, [], ◌∷◌, ◌++◌, length, codes, Some, None, Ok, Err, refl}
 use Rattle.cedar_tokens.specs.Lexemes.{TextToken}
 use Rattle.cedar_grammar.specs.Reading.{Reader, accepted, expect, a_mark, brace_round, braced_at}
-use Rattle.cedar_grammar.specs.Trees.{Node, Text}
+use Rattle.cedar_tree.specs.Trees.{Node, Text}
 use Rattle.cedar_parser.proofs.Loops.{Reached, reached_start, reached_end, reached_more, put_closed, puts_nothing_closed, puts_more_closed}
 
 module _ {A : Type 0} (f : Reader A) (start : List TextToken) where

@@ -5,7 +5,7 @@ use Rattle.std.proofs.lemmas.List.{append-nil, map-append}
 use Rattle.cedar_tokens.specs.Lexemes.{TextToken}
 use Rattle.cedar_grammar.specs.Grammar.{path_of, last_of, literal_value, qualified}
 use Rattle.cedar_grammar.specs.Reading.{accepted, expect, a_mark, an_ident, looped, path_round, id_round, path_behind}
-use Rattle.cedar_grammar.specs.Trees.{Node, Text, Path}
+use Rattle.cedar_tree.specs.Trees.{Node, Text, Path}
 use Rattle.cedar_parser.specs.Longer.{longer, qualified_at}
 use Rattle.cedar_parser.proofs.Loops.{Reached, reached_start, reached_end, reached_more, put_first, put_closed, puts_nothing_first, puts_more_first, puts_nothing_closed, puts_more_closed}
 

@@ -5,7 +5,7 @@ use Rattle.std.proofs.Common.{append_assoc}
 use Rattle.std.proofs.lemmas.List.{append-nil}
 use Rattle.cedar_tokens.specs.Lexemes.{TextToken}
 use Rattle.cedar_grammar.specs.Reading.{Reader, done, either, on_next, accepted, a_mark, after, rounds, comma_round, commas_at}
-use Rattle.cedar_grammar.specs.Trees.{Node, Text}
+use Rattle.cedar_tree.specs.Trees.{Node, Text}
 
 -- what a reader of lists gives, with these members before it
 abbrev pub prepend : {A : Type 0} → List A → Result (List A × List TextToken) ℕ → Result (List A × List TextToken) ℕ

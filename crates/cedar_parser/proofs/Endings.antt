@@ -3,7 +3,7 @@
 use Rattle.std.proofs.Common.{◌≡◌, ℕ, Bool, List, length, codes, Option, Some, None, Result, Ok, Err, refl}
 use Rattle.cedar_tokens.specs.Lexemes.{TextToken}
 use Rattle.cedar_grammar.specs.Reading.{Reader, ◌>>=◌, after, either, done, accepted, expect, a_mark, name_at, commas_at, one_or_list_at, ref_at, above_at, applies_at, tail_at, action_behind}
-use Rattle.cedar_grammar.specs.Trees.{Node, Place, Text, TypeTree, QualName, AppDecl, ActionDecl, Action, Declaration, between, placed, stands}
+use Rattle.cedar_tree.specs.Trees.{Node, Place, Text, TypeTree, QualName, AppDecl, ActionDecl, Action, Declaration, between, placed, stands}
 use Rattle.cedar_parser.specs.Behind.{action_end, action_rest}
 
 module _ (action : Node Text) where

@@ -16,9 +16,9 @@ use Rattle.cedar_names.specs.declared.annotation.Annotation as value
 use Rattle.cedar_names.specs.declared.any_id.AnyId.{AnyId}
 use Rattle.cedar_tokens.specs.Lexemes.{TextToken}
 use Rattle.cedar_grammar.specs.Grammar.{keys_of}
-use Rattle.cedar_grammar.specs.Meanings.{annotation_tree, place_where}
+use Rattle.cedar_tree.specs.Meanings.{annotation_tree, place_where}
 use Rattle.cedar_grammar.specs.Reading.{accepted, a_mark, annotation_behind, annots_from, annots_at}
-use Rattle.cedar_grammar.specs.Trees.{Node, Text, Annotations, by_key, stands}
+use Rattle.cedar_tree.specs.Trees.{Node, Text, Annotations, by_key, stands}
 use Rattle.cedar_parser.specs.Keys.{HaveKeys, annotation_node}
 
 -- annotations by their words

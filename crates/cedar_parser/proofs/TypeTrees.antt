@@ -10,8 +10,8 @@ use Rattle.cedar_tree.specs.declared.ty.AttrDecl.{fold-roll-AttrDecl}
 use Rattle.cedar_tree.specs.declared.ty.«Type».{«Type», «fold-roll-Type»}
 use Rattle.cedar_tree.specs.declared.ty.«Type».TheOpen as level
 use Rattle.cedar_tree.specs.declared.ty.«Type».TheVariants as made
-use Rattle.cedar_grammar.specs.Meanings.{attr_level, attr_node, attr_tree, attrs_tree, node_of, path_tree, type_level, type_tree}
-use Rattle.cedar_grammar.specs.Trees.{TypeTree, Set, Ident, Record, AttrDecl, attrs_of}
+use Rattle.cedar_tree.specs.Meanings.{attr_level, attr_node, attr_tree, attrs_tree, node_of, path_tree, type_level, type_tree}
+use Rattle.cedar_tree.specs.Trees.{TypeTree, Set, Ident, Record, AttrDecl, attrs_of}
 
 -- a set means the set of what its element means
 pub tree_of_set : (element : Node «Type») → type_tree (made.Set element) ≡ Set (type_tree element.node) element.loc

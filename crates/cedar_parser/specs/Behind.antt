@@ -3,7 +3,7 @@
 use Rattle.std.specs.Prelude.{List, codes, Some, option_map}
 use Rattle.cedar_grammar.specs.Grammar.{as_name, shape_at, behind_shape}
 use Rattle.cedar_grammar.specs.Reading.{Reader, ◌>>=◌, ◌>>◌, done, looped, expect, a_mark, path_behind, braced_at, annots_at, one_or_list_at, ref_at, above_at, shape_reader, tags_at, app_at, applies_at, tail_at, decl_round, item_at}
-use Rattle.cedar_grammar.specs.Trees.{Node, Place, Text, Path, TypeTree, Annotated, AppDecl, Standard, Entity, ActionDecl, Action, Declaration, Namespace, placed, stands, between}
+use Rattle.cedar_tree.specs.Trees.{Node, Place, Text, Path, TypeTree, Annotated, AppDecl, Standard, Entity, ActionDecl, Action, Declaration, Namespace, placed, stands, between}
 
 -- the rest of a path that begins with this identifier, as a type
 unfoldable pub name_behind : Node Text → Reader (Node TypeTree)

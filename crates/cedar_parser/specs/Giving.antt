@@ -6,7 +6,7 @@ use Rattle.cedar_data.specs.declared.memory.Failure.TheVariants.{Refused, NoMemo
 use Rattle.cedar_text.specs.declared.location.Loc.{Loc}
 use Rattle.cedar_tokens.specs.Lexemes.{TextToken, lexeme_token}
 use Rattle.cedar_tokens.specs.declared.lexeme.Lexeme.{Lexeme}
-use Rattle.cedar_grammar.specs.Trees.{Node, Text}
+use Rattle.cedar_tree.specs.Trees.{Node, Text}
 use Rattle.cedar_parser.specs.declared.fault.Fault.{Fault}
 
 -- the fault stands where the reader finds one; want of memory says nothing

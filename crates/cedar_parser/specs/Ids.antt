@@ -2,7 +2,7 @@
 -- A path that may go on.
 use Rattle.std.specs.Prelude.{[], ◌∷◌, ◌++◌}
 use Rattle.cedar_names.specs.Identifiers.{id_words}
-use Rattle.cedar_grammar.specs.Trees.{Path}
+use Rattle.cedar_tree.specs.Trees.{Path}
 use Rattle.cedar_parser.specs.declared.paths.Ids.{Ids}
 
 -- the path of the identifiers so far

@@ -8,8 +8,8 @@ use Rattle.cedar_names.specs.Identifiers.{any_word}
 use Rattle.cedar_names.specs.declared.annotation.Annotation as value
 use Rattle.cedar_names.specs.declared.any_id.AnyId.{AnyId}
 use Rattle.cedar_grammar.specs.Grammar.{keys_of}
-use Rattle.cedar_grammar.specs.Meanings.{place_where}
-use Rattle.cedar_grammar.specs.Trees.{Node, Annotation, Annotations}
+use Rattle.cedar_tree.specs.Meanings.{place_where}
+use Rattle.cedar_tree.specs.Trees.{Node, Annotation, Annotations}
 
 -- the keys that were found are those of the annotations of the trees
 abbrev pub HaveKeys : List AnyId → Annotations → Type 0

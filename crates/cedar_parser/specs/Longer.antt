@@ -3,7 +3,7 @@
 use Rattle.std.specs.Prelude.{[], ◌∷◌, ◌++◌, Some}
 use Rattle.cedar_grammar.specs.Grammar.{path_of, qualified}
 use Rattle.cedar_grammar.specs.Reading.{Reader, ◌>>=◌, done, looped, id_round}
-use Rattle.cedar_grammar.specs.Trees.{Node, placed, Text, Path, QualName}
+use Rattle.cedar_tree.specs.Trees.{Node, placed, Text, Path, QualName}
 
 -- a path with another identifier behind it
 abbrev pub longer : Path → Node Text → Path

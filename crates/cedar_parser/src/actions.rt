@@ -1,9 +1,9 @@
 // SPDX-License-Identifier: Apache-2.0
 ghost use Rattle.std.specs.Prelude.{◌≡◌, ℕ, ◌<◌, ◌≤◌, length, map, IfOk, OnOk, option_map};
 ghost use Rattle.cedar_text.specs.Lists.{elements};
-ghost use Rattle.cedar_grammar.specs.Meanings.{node_of, listed, path_tree, qual_tree, scope_tree, app_tree, decl_tree};
+ghost use Rattle.cedar_tree.specs.Meanings.{node_of, listed, path_tree, qual_tree, scope_tree, app_tree, decl_tree};
 ghost use Rattle.cedar_grammar.specs.Reading.{above_at, braced_at, one_or_list_at, ref_at, scope_behind, context_behind, app_at, applies_at, tail_at, action_behind, type_at};
-ghost use Rattle.cedar_grammar.specs.Trees.{Types, placed, stands};
+ghost use Rattle.cedar_tree.specs.Trees.{Types, placed, stands};
 ghost use Rattle.cedar_parser.specs.Behind.{action_rest, action_end, apps_behind, braces_behind};
 ghost use Rattle.cedar_parser.specs.Giving.{Gives, tokens_of, lexeme_node};
 

@@ -6,9 +6,9 @@ ghost use Rattle.cedar_text.specs.Words.{has_word};
 ghost use Rattle.cedar_names.specs.Annotating.{annotation_entries, any_cmp};
 ghost use Rattle.cedar_names.specs.Identifiers.{any_word};
 ghost use Rattle.cedar_grammar.specs.Grammar.{annotation_of, is_new_key, keys_of, text_where};
-ghost use Rattle.cedar_grammar.specs.Meanings.{annotations_tree, node_of};
+ghost use Rattle.cedar_tree.specs.Meanings.{annotations_tree, node_of};
 ghost use Rattle.cedar_grammar.specs.Reading.{annotation_behind, annots_at, expect, value_at};
-ghost use Rattle.cedar_grammar.specs.Trees.{Annotations as Written};
+ghost use Rattle.cedar_tree.specs.Trees.{Annotations as Written};
 ghost use Rattle.cedar_parser.specs.Giving.{Gives, tokens_of, lexeme_node};
 ghost use Rattle.cedar_parser.specs.Keys.{HaveKeys, annotation_node};
 

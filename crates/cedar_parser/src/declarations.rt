@@ -1,7 +1,7 @@
 // SPDX-License-Identifier: Apache-2.0
 ghost use Rattle.std.specs.Prelude.{◌≡◌, ℕ, ◌<◌, [], length, map, Some, IfOk, OnOk};
 ghost use Rattle.cedar_grammar.specs.Grammar.{alone};
-ghost use Rattle.cedar_grammar.specs.Meanings.{node_of, path_tree, decl_tree, annotations_tree, annotated_tree, namespace_tree, schema_tree};
+ghost use Rattle.cedar_tree.specs.Meanings.{node_of, path_tree, decl_tree, annotations_tree, annotated_tree, namespace_tree, schema_tree};
 ghost use Rattle.cedar_grammar.specs.Reading.{type_behind, decl_at, annotated_at, namespace_behind, item_at, schema_at, type_at};
 ghost use Rattle.cedar_parser.specs.Behind.{decls_behind, annotated_item};
 ghost use Rattle.cedar_parser.specs.Giving.{Gives, tokens_of, lexeme_node, place_from};

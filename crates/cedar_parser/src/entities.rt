@@ -3,7 +3,7 @@ ghost use Rattle.std.specs.Prelude.{◌≡◌, ℕ, ◌<◌, ◌≤◌, length, 
 ghost use Rattle.cedar_names.specs.Identifiers.{id_word};
 ghost use Rattle.cedar_text.specs.Lists.{elements};
 ghost use Rattle.cedar_grammar.specs.Grammar.{shape_at, behind_shape};
-ghost use Rattle.cedar_grammar.specs.Meanings.{node_of, path_tree, context_tree, type_tree, decl_tree};
+ghost use Rattle.cedar_tree.specs.Meanings.{node_of, path_tree, context_tree, type_tree, decl_tree};
 ghost use Rattle.cedar_grammar.specs.Reading.{above_at, types_at, record_or_path, shape_reader, tags_at, standard_behind, enum_behind, entity_behind, type_at};
 ghost use Rattle.cedar_parser.specs.Behind.{standard_rest};
 ghost use Rattle.cedar_parser.specs.Giving.{Gives, tokens_of, lexeme_node};

@@ -3,9 +3,9 @@ ghost use Rattle.std.specs.Prelude.{◌≡◌, ◌<◌, length, map, IfOk, OnOk}
 ghost use Rattle.cedar_names.specs.Identifiers.{id_word};
 ghost use Rattle.cedar_text.specs.Lists.{elements};
 ghost use Rattle.cedar_grammar.specs.Grammar.{literal_value};
-ghost use Rattle.cedar_grammar.specs.Meanings.{listed, node_of, path_tree, qual_tree};
+ghost use Rattle.cedar_tree.specs.Meanings.{listed, node_of, path_tree, qual_tree};
 ghost use Rattle.cedar_grammar.specs.Reading.{Reader, expect, an_ident, name_at, path_at, ref_at, commas_at, brackets_behind, one_or_list_at};
-ghost use Rattle.cedar_grammar.specs.Trees.{Node, QualName};
+ghost use Rattle.cedar_tree.specs.Trees.{Node, QualName};
 ghost use Rattle.cedar_parser.specs.Giving.{Gives, tokens_of, lexeme_node};
 
 use crate::fault::Fault;
@@ -61,7 +61,7 @@ pub struct Meant;
 
 impl Model for Meant {
     ghost use Rattle.std.specs.Prelude.{[], None};
-    ghost use Rattle.cedar_grammar.specs.Trees.{QualName};
+    ghost use Rattle.cedar_tree.specs.Trees.{QualName};
 
     ghost Value = { QualName };
 

@@ -1,7 +1,7 @@
 // SPDX-License-Identifier: Apache-2.0
 ghost use Rattle.std.specs.Prelude.{[], map};
 ghost use Rattle.cedar_tokens.specs.Lexemes.{lexeme_token};
-ghost use Rattle.cedar_grammar.specs.Meanings.{schema_tree};
+ghost use Rattle.cedar_tree.specs.Meanings.{schema_tree};
 ghost use Rattle.cedar_grammar.specs.Reading.{schema_at};
 ghost use Rattle.cedar_parser.specs.Giving.{Gives};
 

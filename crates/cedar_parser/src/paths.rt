@@ -1,7 +1,7 @@
 // SPDX-License-Identifier: Apache-2.0
 ghost use Rattle.std.specs.Prelude.{◌≡◌, ◌<◌, ◌≤◌, [], length, Some, IfOk, OnOk};
 ghost use Rattle.cedar_names.specs.Identifiers.{id_word};
-ghost use Rattle.cedar_grammar.specs.Meanings.{node_of, path_tree, qual_tree};
+ghost use Rattle.cedar_tree.specs.Meanings.{node_of, path_tree, qual_tree};
 ghost use Rattle.cedar_grammar.specs.Reading.{path_behind, path_at, ref_behind, ref_at};
 ghost use Rattle.cedar_grammar.specs.Grammar.{path_of, qualified};
 ghost use Rattle.cedar_parser.specs.Giving.{Gives, tokens_of};

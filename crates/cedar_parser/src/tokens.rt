@@ -3,9 +3,9 @@ ghost use Rattle.std.specs.Prelude.{◌≡◌, ◌<◌, length, Ok, IfOk, IfSome
 ghost use Rattle.cedar_names.specs.Identifiers.{id_word};
 ghost use Rattle.std.specs.Option.{option_and_then};
 ghost use Rattle.cedar_grammar.specs.Grammar.{literal_body, literal_value, text_of_body};
-ghost use Rattle.cedar_grammar.specs.Meanings.{node_of};
+ghost use Rattle.cedar_tree.specs.Meanings.{node_of};
 ghost use Rattle.cedar_grammar.specs.Reading.{accepted, expect, a_keyword, a_mark, an_ident, name_at};
-ghost use Rattle.cedar_grammar.specs.Trees.{between};
+ghost use Rattle.cedar_tree.specs.Trees.{between};
 ghost use Rattle.cedar_parser.specs.Giving.{Gives, tokens_of, lexeme_node, place_from};
 
 use crate::fault::{Fault, stops_before};

@@ -2,9 +2,9 @@
 ghost use Rattle.std.specs.Prelude.{◌≡◌, ◌<◌, ◌≤◌, ℕ, codes, length, map, Ok, IfOk, OnOk};
 ghost use Rattle.cedar_names.specs.Identifiers.{id_word};
 ghost use Rattle.cedar_grammar.specs.Grammar.{as_name, attr_of};
-ghost use Rattle.cedar_grammar.specs.Meanings.{annotations_tree, attr_node, attr_tree, attrs_tree, node_of, path_tree, type_tree};
+ghost use Rattle.cedar_tree.specs.Meanings.{annotations_tree, attr_node, attr_tree, attrs_tree, node_of, path_tree, type_tree};
 ghost use Rattle.cedar_grammar.specs.Reading.{attr_at, braced_at, question_at, record_behind, set_behind, type_at};
-ghost use Rattle.cedar_grammar.specs.Trees.{Set, placed};
+ghost use Rattle.cedar_tree.specs.Trees.{Set, placed};
 ghost use Rattle.cedar_parser.specs.Behind.{name_behind};
 ghost use Rattle.cedar_parser.specs.Giving.{Gives, tokens_of, lexeme_node};
 

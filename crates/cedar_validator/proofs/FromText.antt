@@ -9,7 +9,7 @@ use Rattle.cedar_names.specs.declared.entity_uid.EntityUID.{EntityUID}
 use Rattle.cedar_text.specs.Lists.{elements}
 use Rattle.cedar_text.specs.declared.non_empty.NonEmpty.{NonEmpty}
 use Rattle.cedar_text.specs.Words.{has_word}
-use Rattle.cedar_grammar.specs.Trees.{Schema}
+use Rattle.cedar_tree.specs.Trees.{Schema}
 use Rattle.cedar_plain.specs.Plain.{DeclTree}
 use Rattle.cedar_plain.specs.Plainness.{plain_decls}
 use Rattle.cedar_syntax.specs.Texts.{ReadsText}

@@ -6,7 +6,7 @@ use Rattle.cedar_tokens.specs.Lexemes.{TextToken, text_token}
 use Rattle.cedar_tokens.proofs.Lexed.{one_list}
 use Rattle.cedar_grammar.proofs.Wholes as grammar
 use Rattle.cedar_grammar.specs.Grammar.{Reads}
-use Rattle.cedar_grammar.specs.Trees.{Schema}
+use Rattle.cedar_tree.specs.Trees.{Schema}
 use Rattle.cedar_plain.specs.Plain.{DeclTree}
 use Rattle.cedar_plain.specs.Plainness.{plain_decls}
 use Rattle.cedar_syntax.specs.Texts.{ReadsText}

@@ -8,7 +8,7 @@ use Rattle.cedar_data.specs.declared.memory.Failure.TheVariants.{Refused, NoMemo
 use Rattle.cedar_names.specs.Order.{word_cmp}
 use Rattle.cedar_text.specs.Lists.{elements}
 use Rattle.cedar_text.specs.Words.{has_word}
-use Rattle.cedar_grammar.specs.Trees.{Schema}
+use Rattle.cedar_tree.specs.Trees.{Schema}
 use Rattle.cedar_plain.specs.Plain.{DeclTree}
 use Rattle.cedar_plain.specs.Plainness.{plain_decls}
 use Rattle.cedar_syntax.specs.Causes.{Explains}

@@ -2,7 +2,7 @@
 use Rattle.std.proofs.Common.{◌<◌, arith, [], ◌∷◌, length}
 use Rattle.std.proofs.lemmas.List.{map-append}
 use Rattle.std.proofs.lemmas.Result.{err_from_is_err_and}
-use Rattle.cedar_grammar.specs.Meanings.{attr_node, attr_tree}
+use Rattle.cedar_tree.specs.Meanings.{attr_node, attr_tree}
 use Rattle.cedar_grammar.specs.Reading.{attr_at, type_at}
 use Rattle.cedar_parser.specs.Giving.{tokens_of}
 use Rattle.cedar_parser.proofs.Braces.{brace_none, brace_unclosed, brace_last, brace_trailing, brace_more}

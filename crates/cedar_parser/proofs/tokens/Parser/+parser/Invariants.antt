@@ -1,6 +1,6 @@
 -- SPDX-License-Identifier: Apache-2.0
 use Rattle.std.proofs.Common.{ℕ, ◌+◌, ◌*◌, ◌<◌, ◌≤◌, map, length}
-use Rattle.cedar_grammar.specs.Meanings.{attr_node, attr_tree}
+use Rattle.cedar_tree.specs.Meanings.{attr_node, attr_tree}
 use Rattle.cedar_grammar.specs.Reading.{attr_at, type_at}
 use Rattle.cedar_parser.specs.Giving.{tokens_of}
 use Rattle.cedar_parser.proofs.Braces.{BraceReached}

@@ -1,7 +1,7 @@
 -- SPDX-License-Identifier: Apache-2.0
 use Rattle.std.proofs.Common.{arith, map}
 use Rattle.cedar_text.specs.Lists.{elements}
-use Rattle.cedar_grammar.specs.Meanings.{node_of}
+use Rattle.cedar_tree.specs.Meanings.{node_of}
 use Rattle.cedar_grammar.specs.Reading.{type_at}
 use Rattle.cedar_parser.specs.Giving.{lexeme_node, tokens_of}
 use Rattle.cedar_parser.proofs.Endings.{action_is}

@@ -2,7 +2,7 @@
 use Rattle.std.proofs.Common.{◌<◌, arith, map, [], ◌∷◌, length, ap, sym, ◌∙◌}
 use Rattle.std.proofs.lemmas.List.{map-append}
 use Rattle.std.proofs.lemmas.Result.{err_from_is_err_and}
-use Rattle.cedar_grammar.specs.Meanings.{node_of, annotated_tree, decl_tree, path_tree}
+use Rattle.cedar_tree.specs.Meanings.{node_of, annotated_tree, decl_tree, path_tree}
 use Rattle.cedar_grammar.specs.Reading.{type_at}
 use Rattle.cedar_parser.specs.Giving.{tokens_of, lexeme_node}
 use Rattle.cedar_parser.proofs.Items.{decls_start, decls_end, decls_none, decls_more, decls_as}

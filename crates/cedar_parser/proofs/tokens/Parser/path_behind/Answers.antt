@@ -2,7 +2,7 @@
 use Rattle.std.proofs.Common.{arith}
 use Rattle.std.proofs.lemmas.Result.{err_from_is_err_and}
 use Rattle.cedar_names.specs.Identifiers.{id_word}
-use Rattle.cedar_grammar.specs.Meanings.{node_of}
+use Rattle.cedar_tree.specs.Meanings.{node_of}
 use Rattle.cedar_parser.specs.Giving.{tokens_of}
 use Rattle.cedar_parser.specs.Ids.{ids_path}
 use Rattle.cedar_parser.proofs.Chains.{path_start, path_more, path_fault, path_end}

@@ -1,7 +1,7 @@
 -- SPDX-License-Identifier: Apache-2.0
 use Rattle.std.proofs.Common.{◌≤◌, length}
 use Rattle.cedar_names.specs.Identifiers.{id_word}
-use Rattle.cedar_grammar.specs.Meanings.{node_of}
+use Rattle.cedar_tree.specs.Meanings.{node_of}
 use Rattle.cedar_parser.specs.Giving.{tokens_of}
 use Rattle.cedar_parser.specs.Ids.{ids_path}
 use Rattle.cedar_parser.proofs.Chains.{PathReached}

@@ -2,7 +2,7 @@
 use Rattle.std.proofs.Common.{◌<◌, arith, map, [], ◌∷◌, suc, length, ap, sym, subst, ◌∙◌}
 use Rattle.std.proofs.lemmas.List.{map-append}
 use Rattle.std.proofs.lemmas.Result.{err_from_is_err_and}
-use Rattle.cedar_grammar.specs.Meanings.{annotated_tree, namespace_tree}
+use Rattle.cedar_tree.specs.Meanings.{annotated_tree, namespace_tree}
 use Rattle.cedar_parser.specs.Giving.{tokens_of}
 use Rattle.cedar_parser.proofs.Items.{ItemsReached, items_end, items_none, items_more, some_tokens, no_tokens}
 use Rattle.cedar_parser.proofs.Faults.{fault_along, fewer_tokens, tokens-length}

@@ -1,6 +1,6 @@
 -- SPDX-License-Identifier: Apache-2.0
 use Rattle.std.proofs.Common.{◌≤◌, length}
-use Rattle.cedar_grammar.specs.Meanings.{schema_tree}
+use Rattle.cedar_tree.specs.Meanings.{schema_tree}
 use Rattle.cedar_parser.specs.Giving.{tokens_of}
 use Rattle.cedar_parser.proofs.Items.{ItemsReached}
 use Rattle.cedar_parser.proofs.tokens.Parser.schema.Given as goal

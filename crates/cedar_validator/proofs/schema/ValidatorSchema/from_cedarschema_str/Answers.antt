@@ -2,7 +2,7 @@
 use Rattle.std.proofs.Common.{map}
 use Rattle.cedar_names.specs.Extensions.{extension_words}
 use Rattle.cedar_text.specs.Words.{has_word}
-use Rattle.cedar_grammar.specs.Meanings.{schema_tree}
+use Rattle.cedar_tree.specs.Meanings.{schema_tree}
 use Rattle.cedar_plain.specs.Plain.{decl_tree}
 use Rattle.cedar_validator.proofs.FromText.{text_answered, text_accepted, not_plain, not_plain_formed}
 use Rattle.cedar_validator.proofs.schema.ValidatorSchema.from_cedarschema_str.Goals as goal
