@@ -4,6 +4,8 @@
 #![tactic(auto)]
 
 mod ty;
+mod value;
 
 pub use cedar_closure::{SetIter, TcError, TcKey, TcNode, compute_tc};
 pub use ty::{AttrIter, AttributeType, Attributes, OpenTag, ResolvedType as Type, TypeView};
+pub use value::{CedarValueJson, ValueList, ValueListIter, ValueMap, ValueMapIter};
