@@ -1,0 +1,11 @@
+-- SPDX-License-Identifier: Apache-2.0
+pub mod FirstRefusal
+pub mod Found
+pub mod Goes
+pub mod Keeps
+pub mod Names
+pub mod Possible
+pub mod Same
+pub mod ThroughEquations
+pub mod TypeFolds
+pub mod TypeInduction

@@ -1,0 +1,10 @@
+-- SPDX-License-Identifier: Apache-2.0
+pub mod Answers
+pub mod Bare
+pub mod CommonTypeIds
+pub mod Possibilities
+pub mod Qualifying
+pub mod Reference
+pub mod References
+pub mod Through
+pub mod WrittenTypes

@@ -1,0 +1,56 @@
+-- SPDX-License-Identifier: Apache-2.0
+-- Names as a schema writes them, and the full names that they may stand for.
+use Rattle.std.specs.Prelude.{List, [], ◌∷◌, Option, Some, None}
+use Rattle.cedar_text.specs.declared.non_empty.NonEmpty.{NonEmpty}
+use Rattle.cedar_names.specs.Components.{namespace_of, qualified}
+use Rattle.cedar_names.specs.declared.id.Id.{Id}
+use Rattle.cedar_names.specs.declared.internal_name.InternalName.{InternalName}
+use Rattle.cedar_written.specs.declared.conditional_name.ConditionalName.{ConditionalName}
+use Rattle.cedar_written.specs.declared.raw_name.RawName.{RawName}
+use Rattle.cedar_written.specs.declared.reference_type.ReferenceType.{ReferenceType}
+
+-- a name as it is written
+abbrev pub raw_name : InternalName → RawName
+raw_name n = record { name = n }
+
+-- what is written
+abbrev pub written : RawName → InternalName
+written n = n.name
+
+-- a list that begins so
+abbrev pub leading : {A : Type 0} → A → List A → NonEmpty A
+leading head tail = record { head = head; tail = tail }
+
+-- the full names that a name stands for in the namespace ns, given the name's own namespace
+abbrev possible : Option InternalName → InternalName → List Id → NonEmpty InternalName
+possible None n ids = leading n []
+possible (Some ns) n [] = leading (qualified n (Some ns)) (n ∷ [])
+possible (Some ns) n (id ∷ ids) = leading n []
+
+-- in a namespace, an unqualified name stands for the name in it, or else for itself; every other name stands for itself alone
+abbrev pub possibilities : Option InternalName → InternalName → NonEmpty InternalName
+possibilities ns n = possible ns n (namespace_of n)
+
+-- a written name at a place of a kind, in the namespace ns, where there is one
+abbrev pub conditional : Option InternalName → ReferenceType → RawName → ConditionalName
+conditional ns kind raw = record { raw = raw; reference_type = kind; possibilities = possibilities ns (written raw) }
+
+-- a name that stands for itself alone
+abbrev pub unconditional : InternalName → ReferenceType → ConditionalName
+unconditional n kind = record { raw = raw_name n; reference_type = kind; possibilities = leading n [] }
+
+-- the name as it is written
+abbrev pub raw_of : ConditionalName → RawName
+raw_of n = n.raw
+
+-- the kind of its place
+abbrev pub kind_of : ConditionalName → ReferenceType
+kind_of n = n.reference_type
+
+-- the full names that it may stand for
+abbrev pub possibilities_of : ConditionalName → NonEmpty InternalName
+possibilities_of n = n.possibilities
+
+-- the one that counts first
+abbrev pub first_possibility : ConditionalName → InternalName
+first_possibility n = n.possibilities.head

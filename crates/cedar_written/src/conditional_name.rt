@@ -1,0 +1,91 @@
+// SPDX-License-Identifier: Apache-2.0
+ghost use Rattle.std.specs.Prelude.{◌≡◌, IfOk};
+ghost use Rattle.std.specs.Option.{option_copied};
+ghost use Rattle.cedar_text.specs.Lists.{elements, elements_left};
+ghost use Rattle.cedar_names.specs.Components.{loc_of};
+ghost use Rattle.cedar_written.specs.Possibilities.{kind_of, possibilities_of, raw_of, unconditional, written};
+
+use crate::raw_name::RawName;
+use crate::reference_type::ReferenceType;
+use cedar_data::{Dup, Mem};
+use cedar_names::InternalName;
+use cedar_text::{Loc, NonEmpty, NonEmptyIter};
+use std::alloc::Global;
+
+/// A name as a schema writes it, with the full names that it may stand for. The first of them that is declared counts.
+#[derive(Debug, Drop, PartialEq, Eq, PartialOrd, Ord, Hash)]
+pub struct ConditionalName {
+    pub(crate) raw: RawName,
+    pub(crate) reference_type: ReferenceType,
+    pub(crate) possibilities: NonEmpty<InternalName>,
+}
+
+impl ConditionalName {
+    /// The name that stands for itself alone.
+    pub fn unconditional(
+        alloc: Global,
+        name: InternalName,
+        reference_type: ReferenceType,
+    ) -> Mem<ConditionalName>
+        ensures { IfOk result (λ n. n ≡ unconditional name reference_type) }
+    {
+        let raw = RawName::from_name(name.dup(alloc)?);
+        Ok(ConditionalName {
+            raw,
+            reference_type,
+            possibilities: NonEmpty::singleton(alloc, name),
+        })
+    }
+
+    /// The name as it is written.
+    pub fn raw(&self) -> &RawName
+        ensures { result.now ≡ raw_of self.now }
+    {
+        &self.raw
+    }
+
+    /// The full names that it may stand for, by value. It takes no memory.
+    pub fn into_possibilities(self) -> NonEmpty<InternalName>
+        ensures { result ≡ possibilities_of self }
+    {
+        let ConditionalName {
+            raw: _,
+            reference_type: _,
+            possibilities,
+        } = self;
+        possibilities
+    }
+
+    /// The place, if it has one.
+    pub fn loc(&self) -> Option<&Loc>
+        ensures { option_copied result ≡ loc_of (written (raw_of self.now)) }
+    {
+        self.raw.loc()
+    }
+
+    /// The full names that it may stand for, the one that counts first in front.
+    pub fn possibilities(&self) -> NonEmptyIter<'_, InternalName>
+        ensures { elements_left result ≡ elements (possibilities_of self.now) }
+    {
+        self.possibilities.iter()
+    }
+
+    /// Which kinds of types it may stand for.
+    pub fn reference_type(&self) -> ReferenceType
+        ensures { result ≡ kind_of self.now }
+    {
+        self.reference_type
+    }
+}
+
+impl Dup for ConditionalName {
+    fn dup(&self, alloc: Global) -> Mem<ConditionalName> {
+        let raw = self.raw.dup(alloc)?;
+        let possibilities = self.possibilities.dup(alloc)?;
+        Ok(ConditionalName {
+            raw,
+            reference_type: self.reference_type,
+            possibilities,
+        })
+    }
+}

@@ -1,0 +1,135 @@
+// SPDX-License-Identifier: Apache-2.0
+ghost use Rattle.std.specs.Prelude.{◌≡◌, IfOk, unwrap_or};
+ghost use Rattle.std.specs.Option.{option_copied};
+ghost use Rattle.cedar_written.specs.Answers.{Answers, Makes};
+ghost use Rattle.cedar_written.specs.Bare.{bare_type};
+ghost use Rattle.cedar_written.specs.Qualifying.{action_name, qualifying};
+ghost use Rattle.cedar_written.specs.Reference.{parent};
+ghost use Rattle.cedar_written.specs.Through.{through_attribute, through_record, through_type, through_variant};
+
+use crate::conditional_name::ConditionalName;
+use crate::raw_name::RawName;
+use crate::reference_type::ReferenceType;
+use crate::step::Step;
+use crate::ty::{RecordType, SchemaType, TypeOfAttribute, TypeVariant};
+use crate::walked::Walk;
+use cedar_data::{Failure, Mem, NoMemory, Out, Text};
+use cedar_names::{InternalName, UnreservedId};
+use std::alloc::Global;
+
+/// A refusal that never comes.
+#[derive(Drop)]
+pub enum Never {}
+
+/// The step that gives each written name the full names that it may stand for in a namespace.
+#[derive(Drop)]
+pub struct Qualifying<'a> {
+    /// The namespace, none for the unnamed one.
+    pub namespace: Option<&'a InternalName>,
+}
+
+impl<'a> Step<RawName> for Qualifying<'a> {
+    type Made = ConditionalName;
+
+    type Refusal = Never;
+
+    ghost step = { λ s. qualifying (option_copied s.namespace) };
+
+    fn go(&self, alloc: Global, kind: ReferenceType, name: RawName) -> Out<ConditionalName, Never> {
+        Ok(name.conditionally_qualify_with(alloc, self.namespace, kind)?)
+    }
+
+    fn go_parent(
+        &self,
+        alloc: Global,
+        id: &Text,
+        ty: Option<RawName>,
+    ) -> Out<ConditionalName, Never>
+        ensures { Answers result (qualifying (option_copied self.now.namespace) (parent id.now ty)) }
+    {
+        let name = type_or_action(alloc, ty)?;
+        let kind = ReferenceType::Entity;
+        Ok(name.conditionally_qualify_with(alloc, self.namespace, kind)?)
+    }
+}
+
+/// The type of an action parent, where no type stands for `Action`.
+pub fn type_or_action(alloc: Global, ty: Option<RawName>) -> Mem<RawName>
+    ensures { IfOk result (λ name. name ≡ unwrap_or ty action_name) }
+{
+    match ty {
+        None => {
+            let id = UnreservedId::known(alloc, "Action")?;
+            Ok(RawName::new_from_unreserved(alloc, id, None))
+        }
+        Some(name) => Ok(name),
+    }
+}
+
+/// The walk of a step that never refuses. It fails only for want of memory.
+pub fn walk_unrefused<N, S: Step<N, Refusal = Never>, W: Walk<N, S>>(
+    alloc: Global,
+    step: &S,
+    whole: W,
+) -> Mem<W::Full>
+    ensures { Makes result (W.through step.now whole) }
+{
+    match whole.walk(alloc, step) {
+        Ok(made) => Ok(made),
+        Err(Failure::Refused(never)) => match never {},
+        Err(Failure::NoMemory) => Err(NoMemory),
+    }
+}
+
+impl SchemaType<RawName> {
+    /// The type with the full names that each name may stand for in the namespace `ns`. All else stays, places too.
+    pub fn conditionally_qualify_type_references(
+        self,
+        alloc: Global,
+        ns: Option<&InternalName>,
+    ) -> Mem<SchemaType<ConditionalName>>
+        ensures answer { Makes result (through_type (qualifying (option_copied ns.entry)) self) }
+        ensures same { IfOk result (λ made. bare_type made ≡ bare_type self) }
+    {
+        walk_unrefused(alloc, &Qualifying { namespace: ns }, self)
+    }
+}
+
+impl TypeVariant<RawName> {
+    /// As on a type.
+    pub fn conditionally_qualify_type_references(
+        self,
+        alloc: Global,
+        ns: Option<&InternalName>,
+    ) -> Mem<TypeVariant<ConditionalName>>
+        ensures { Makes result (through_variant (qualifying (option_copied ns.entry)) self) }
+    {
+        walk_unrefused(alloc, &Qualifying { namespace: ns }, self)
+    }
+}
+
+impl RecordType<RawName> {
+    /// As on a type.
+    pub fn conditionally_qualify_type_references(
+        self,
+        alloc: Global,
+        ns: Option<&InternalName>,
+    ) -> Mem<RecordType<ConditionalName>>
+        ensures { Makes result (through_record (qualifying (option_copied ns.entry)) self) }
+    {
+        walk_unrefused(alloc, &Qualifying { namespace: ns }, self)
+    }
+}
+
+impl TypeOfAttribute<RawName> {
+    /// As on a type.
+    pub fn conditionally_qualify_type_references(
+        self,
+        alloc: Global,
+        ns: Option<&InternalName>,
+    ) -> Mem<TypeOfAttribute<ConditionalName>>
+        ensures { Makes result (through_attribute (qualifying (option_copied ns.entry)) self) }
+    {
+        walk_unrefused(alloc, &Qualifying { namespace: ns }, self)
+    }
+}

@@ -1,0 +1,149 @@
+// SPDX-License-Identifier: Apache-2.0
+ghost use Rattle.std.specs.Prelude.{◌≡◌, ◌≢◌, [], ◌∷◌, ◌↔◌, None, Some, IsTrue, IfOk};
+ghost use Rattle.std.specs.Option.{option_copied, option_map};
+ghost use Rattle.cedar_text.specs.Failures.{IfRefused};
+ghost use Rattle.cedar_text.specs.Faults.{no_id, word_fault};
+ghost use Rattle.cedar_text.specs.Joining.{joined};
+ghost use Rattle.cedar_text.specs.NormalNames.{name_fault, parts};
+ghost use Rattle.cedar_names.specs.Components.{components, internal_name, loc_of, namespace_of, qualified};
+ghost use Rattle.cedar_names.specs.Identifiers.{id_of};
+ghost use Rattle.cedar_names.specs.Names.{internal_of};
+ghost use Rattle.cedar_written.specs.Possibilities.{conditional, first_possibility, possibilities, raw_name, written};
+
+use crate::conditional_name::ConditionalName;
+use crate::reference_type::ReferenceType;
+use cedar_data::{Dup, Items, Mem, Out};
+use cedar_names::{Id, InternalName, Name, UnreservedId};
+use cedar_text::{Loc, NameFault, NonEmpty};
+use std::alloc::Global;
+
+/// A name as a schema writes it, which may be unqualified within a namespace.
+#[derive(Debug, Drop, PartialEq, Eq, PartialOrd, Ord, Hash)]
+pub struct RawName {
+    name: InternalName,
+}
+
+impl RawName {
+    /// The name of one component.
+    pub fn new(alloc: Global, id: Id, loc: Option<Loc>) -> RawName
+        ensures { written result ≡ internal_name id [] loc }
+    {
+        RawName::from_name(InternalName::unqualified_name(alloc, id, loc))
+    }
+
+    /// The name of one component, which is not `__cedar`.
+    pub fn new_from_unreserved(alloc: Global, id: UnreservedId, loc: Option<Loc>) -> RawName
+        ensures { written result ≡ internal_name (id_of id) [] loc }
+    {
+        RawName::new(alloc, id.into_id(), loc)
+    }
+
+    /// The name, as it stands.
+    pub fn from_name(n: InternalName) -> RawName
+        ensures { result ≡ raw_name n }
+    {
+        RawName { name: n }
+    }
+
+    /// The name of one component that the text is, with no place; refused with what is wrong with it.
+    pub fn parse_unqualified_name(alloc: Global, s: &str) -> Out<RawName, NameFault>
+        ensures ok { IfOk result (λ n. (word_fault no_id s.now ≡ None)
+            × (components (written n) ≡ s.now ∷ []) × (loc_of (written n) ≡ None)) }
+        ensures refused { IfRefused result (λ fault. word_fault no_id s.now ≡ Some fault) }
+    {
+        let name = InternalName::parse_unqualified_name(alloc, s)?;
+        Ok(RawName { name })
+    }
+
+    /// The name that the text is: identifiers with `::` between them, and no blanks. It has no place. Refused with what
+    /// is wrong with the text.
+    pub fn from_normalized_str(alloc: Global, s: &str) -> Out<RawName, NameFault>
+        ensures ok { IfOk result (λ n. (name_fault no_id s.now ≡ None)
+            × (components (written n) ≡ parts s.now) × (loc_of (written n) ≡ None)) }
+        ensures text { IfOk result (λ n. joined (components (written n)) ≡ s.now) }
+        ensures refused { IfRefused result (λ fault. name_fault no_id s.now ≡ Some fault) }
+    {
+        let name = InternalName::from_normalized_str(alloc, s)?;
+        Ok(RawName { name })
+    }
+
+    /// Whether the namespace is empty.
+    pub fn is_unqualified(&self) -> bool
+        ensures { IsTrue result ↔ (namespace_of (written self.now) ≡ []) }
+    {
+        self.name.is_unqualified()
+    }
+
+    /// The place, if it has one.
+    pub fn loc(&self) -> Option<&Loc>
+        ensures { option_copied result ≡ loc_of (written self.now) }
+    {
+        self.name.loc()
+    }
+
+    /// The name within the namespace that `ns` names, unless it has a namespace already; the name itself where there is
+    /// no `ns`. The place stays.
+    pub fn qualify_with(self, alloc: Global, ns: Option<&InternalName>) -> Mem<InternalName>
+        ensures value { IfOk result (λ n. n ≡ qualified (written self) (option_copied ns.entry)) }
+        ensures kept { IfOk result (λ n. namespace_of (written self) ≢ [] → n ≡ written self) }
+    {
+        let RawName { name } = self;
+        name.qualify_with(alloc, ns)
+    }
+
+    /// As `qualify_with`, within the namespace that a `Name` names.
+    pub fn qualify_with_name(self, alloc: Global, ns: Option<&Name>) -> Mem<InternalName>
+        ensures value { IfOk result (λ n. n
+            ≡ qualified (written self) (option_map internal_of (option_copied ns.entry))) }
+        ensures kept { IfOk result (λ n. namespace_of (written self) ≢ [] → n ≡ written self) }
+    {
+        let RawName { name } = self;
+        name.qualify_with_name(alloc, ns)
+    }
+
+    /// The name with the full names that it may stand for in the namespace `ns`, at a place of this kind.
+    #[tactic(auto, using(crate::proofs::Possible::possible))]
+    pub fn conditionally_qualify_with(
+        self,
+        alloc: Global,
+        ns: Option<&InternalName>,
+        reference_type: ReferenceType,
+    ) -> Mem<ConditionalName>
+        ensures value { IfOk result (λ n. n
+            ≡ conditional (option_copied ns.entry) reference_type self) }
+        ensures first { IfOk result (λ n. first_possibility n
+            ≡ qualified (written self) (option_copied ns.entry)) }
+    {
+        let name = self.name.dup(alloc)?;
+        let head = name.qualify_with(alloc, ns)?;
+        let tail = other_possibilities(alloc, &self.name, ns)?;
+        Ok(ConditionalName {
+            raw: self,
+            reference_type,
+            possibilities: NonEmpty { head, tail },
+        })
+    }
+}
+
+/// What the name may stand for where its first possibility is not declared.
+fn other_possibilities(
+    alloc: Global,
+    name: &InternalName,
+    ns: Option<&InternalName>,
+) -> Mem<Items<InternalName>>
+    ensures { IfOk result (λ names. names ≡ (possibilities (option_copied ns.entry) name.now).tail) }
+{
+    if ns.is_none() || !name.is_unqualified() {
+        return Ok(Items::new(alloc));
+    }
+    let mut names = Items::new(alloc);
+    names.push(name.dup(alloc)?)?;
+    Ok(names)
+}
+
+impl Dup for RawName {
+    fn dup(&self, alloc: Global) -> Mem<RawName> {
+        let name = self.name.dup(alloc)?;
+        Ok(RawName { name })
+    }
+}
