@@ -1,0 +1,5 @@
+-- SPDX-License-Identifier: Apache-2.0
+pub mod FirstRefusal
+pub mod Keeps
+pub mod Same
+pub mod Uids
