@@ -3,16 +3,11 @@ ghost use Rattle.std.specs.Prelude.{◌≡◌, IfOk};
 ghost use Rattle.cedar_names.specs.Identifiers.{id_word};
 
 use cedar_data::{Dup, Failure, Mem, NoMemory};
-use cedar_names::{Id, Span};
+use cedar_names::Id;
 use cedar_syntax::{Schema, parse_schema};
 use std::alloc::Global;
 use std::fmt::Debug;
 use std::test::Fail;
-
-/// Two places of the examples.
-pub const FIRST: Span = Span { start: 1, end: 2 };
-
-pub const SECOND: Span = Span { start: 4, end: 5 };
 
 /// Whether a copy is printed as its source, places included.
 pub fn is_printed_alike<T: Dup + Debug + Drop>(alloc: Global, value: &T) -> Mem<bool> {

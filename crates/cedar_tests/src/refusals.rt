@@ -44,7 +44,7 @@ fn are_copied(rt: HostRuntime) -> Result<(), Fail> {
         let error = refusal_of(rt.alloc(), text)?;
         assert_eq!(rt; variant_of(&error), variant);
         assert!(rt; is_copied(rt.alloc(), &error)?, "of {text:?}");
-        count += 1;
+        count = count.saturating_add(1);
     }
     assert_eq!(rt; count, 6);
     Ok(())

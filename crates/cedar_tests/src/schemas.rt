@@ -78,7 +78,7 @@ fn nodes(rt: HostRuntime) -> Result<(), Fail> {
         node.add_edge_to(entity(rt.alloc(), "G")?)?;
         assert!(rt; node.has_edge_to(&entity(rt.alloc(), "G")?));
         assert!(rt; !node.has_edge_to(&entity(rt.alloc(), "H")?));
-        assert_eq!(rt; node.out_edges().count(), before.saturating_add(1));
+        assert_eq!(rt; node.descendants.len(), before.saturating_add(1));
     }
     Ok(())
 }

@@ -41,7 +41,7 @@ fn broken_rules(rt: HostRuntime) -> Result<(), Fail> {
     let mut count = 0u32;
     for rule in &rules {
         assert!(rt; is_copied(alloc, rule)?, "of {rule:?}");
-        count += 1;
+        count = count.saturating_add(1);
     }
     assert_eq!(rt; count, 4);
     assert_eq!(rt; reserved_part(&rules[3]), Some("in"));
@@ -68,7 +68,7 @@ fn kinds(rt: HostRuntime) -> Result<(), Fail> {
     let mut count = 0u32;
     for kind in &kinds {
         assert!(rt; is_copied(alloc, kind)?, "of {kind:?}");
-        count += 1;
+        count = count.saturating_add(1);
     }
     assert_eq!(rt; count, 6);
     Ok(())

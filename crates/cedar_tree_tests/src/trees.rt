@@ -40,7 +40,7 @@ fn other_schemas(rt: HostRuntime) -> Result<(), Fail> {
     for text in rows {
         let other = parsed(rt.alloc(), text)?;
         assert!(rt; other != schema, "of {text:?}");
-        count += 1;
+        count = count.saturating_add(1);
     }
     assert_eq!(rt; count, 5);
     Ok(())
