@@ -3,7 +3,7 @@
 use Rattle.std.proofs.Common.{ℕ, Bool, true, false, ◌||◌, List, Option, Some, None, option_map, codes, ap, ◌∙◌, subst, refl, inl, inr}
 use Rattle.cedar_tokens.specs.Lexemes.{TextToken}
 use Rattle.cedar_tokens.specs.declared.token.TokenKind.TheVariants as kind
-use Rattle.cedar_grammar.specs.Productions.{Production, gives, ◌>>=◌, ◌>>◌, ◌∣◌, optional, maybe}
+use Rattle.cedar_grammar.specs.Productions.{Production, gives, ◌>>=◌, ◌∣◌, maybe}
 use Rattle.cedar_tree.specs.Trees.{Node, Place, placed, Text, Path, TypeTree, ContextDecl, Named, Shape, Standard, Enum, Declaration, Entity}
 use Rattle.cedar_grammar.specs.Grammar.{is_keyword, is_mark_token, literal_value, keyword, mark, str, ident, idents, path, types, commas, bracketed, shape_decl, tags_clause, behind_shape, shape_at}
 use Rattle.cedar_grammar.specs.Reading.{Reader, done, expect, on_next, a_keyword, a_mark, an_ident, commas_at, path_at, types_at, above_at, record_or_path, shape_reader, tags_at, record_behind, standard_behind, enum_behind, entity_behind}

@@ -1,13 +1,13 @@
 -- SPDX-License-Identifier: Apache-2.0
 -- What the grammar reads has identifiers where identifiers stand.
-use Rattle.std.proofs.Common.{◌≡◌, ℕ, zero, suc, Bool, true, false, if◌then◌else◌, IsTrue, List, [], ◌∷◌, map, All, Option, Some, None, IfSome, option_map, codes, refl, sym, subst, inl, inr}
+use Rattle.std.proofs.Common.{◌≡◌, ℕ, zero, suc, Bool, true, false, if◌then◌else◌, IsTrue, List, [], ◌∷◌, map, All, Option, Some, None, IfSome, option_map, codes, sym, subst, inl, inr}
 use Rattle.std.proofs.lemmas.List.Elements.{All-nil, All-cons, All-head, All-tail, All-map}
 use Rattle.cedar_tokens.specs.Lexemes.{TextToken}
 use Rattle.cedar_text.specs.Words.{is_id}
-use Rattle.cedar_grammar.specs.Productions.{Production, class, gives, ◌>>=◌, ◌>>◌, ◌∣◌, ReadsMany, none, more, many, optional, maybe, separated, trailing}
-use Rattle.cedar_tree.specs.Trees.{Node, Place, Text, Path, stands, placed, Annotated, TypeTree, Set, Attrs, attrs_of, no_attrs, AttrDecl, ContextDecl, Named, Shape, Standard, Enum, Principal, Resource, QualName, AppDecl, Types, Context, Declaration, Entity, Action, Common, Namespace, Schema}
+use Rattle.cedar_grammar.specs.Productions.{Production, gives, ◌>>=◌, ◌>>◌, ◌∣◌, ReadsMany, none, more, many, optional, maybe, separated, trailing}
+use Rattle.cedar_tree.specs.Trees.{Node, Place, Text, stands, placed, Annotated, TypeTree, Set, attrs_of, no_attrs, AttrDecl, ContextDecl, Named, Shape, Types, Context, Declaration, Namespace, Schema}
 use Rattle.cedar_grammar.specs.Grammar.{at_token, text_where, is_ident_token, keyword, mark, ident, idents, names, path_of, path, bracketed, commas, str, name, types, one_or_list, qualified, ref, refs, annotated, annots, attr_of, attr_decl, record_type, pr, context_type, app_decl, set_type, as_record, as_name, type_upto, tags_clause, shape_at, behind_shape, shape_decl, standard_entity, enum_entity, applies_to, attributes_tail, action_decl, type_decl, decl, namespace, alone, item_behind, schema, Reads}
-use Rattle.cedar_grammar.specs.Identifying.{IsIdent, OfIds, TypeOfIds, AttrsOfIds, ShapeOfIds, EntityOfIds, RefOfIds, AppOfIds, ActionOfIds, DeclOfIds, NamespaceOfIds, SchemaOfIds}
+use Rattle.cedar_grammar.specs.Identifying.{IsIdent, OfIds, TypeOfIds, AttrsOfIds, ShapeOfIds, RefOfIds, AppOfIds, DeclOfIds, NamespaceOfIds, SchemaOfIds}
 use Rattle.cedar_grammar.proofs.Tokens.{passes, ident_is}
 
 -- what R reads has Q

@@ -9,6 +9,7 @@ pub mod Identified
 pub mod Levels
 pub mod Lifting
 pub mod Lists
+pub mod Moving
 pub mod Names
 pub mod Readers
 pub mod Schemas

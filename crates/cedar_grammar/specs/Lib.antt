@@ -4,3 +4,4 @@ pub mod Identifying
 pub mod Productions
 pub mod Reading
 pub mod Stops
+pub mod Unplaced

@@ -6,7 +6,9 @@ ghost use Rattle.cedar_grammar.specs.Identifying.{SchemaOfIds};
 ghost use Rattle.cedar_grammar.specs.Productions.{Completable};
 ghost use Rattle.cedar_grammar.specs.Reading.{schema_at};
 ghost use Rattle.cedar_grammar.specs.Stops.{Finds};
+ghost use Rattle.cedar_grammar.specs.Unplaced.{tokens_unplaced};
 ghost use Rattle.cedar_tree.specs.Trees.{Node, Schema, TypeTree};
+ghost use Rattle.cedar_tree.specs.Unplaced.{schema_unplaced};
 ghost use Rattle.cedar_tree.specs.Nesting.{nest};
 
 /// A law with no work to do: the tokens at which a schema may stop short are exactly those that
@@ -43,4 +45,11 @@ pub fn identifiers_read()
 /// A law with no work to do: tokens are one schema at most, places included.
 pub fn one_reading()
     ensures { (ts : List TextToken) (s s' : Schema) → Reads ts s → Reads ts s' → s ≡ s' }
+{}
+
+/// A law with no work to do: tokens that are the same but for their places are schemas that are the
+/// same but for theirs.
+pub fn places_left_out()
+    ensures { (ts us : List TextToken) (s s' : Schema) → tokens_unplaced ts ≡ tokens_unplaced us
+        → Reads ts s → Reads us s' → schema_unplaced s ≡ schema_unplaced s' }
 {}

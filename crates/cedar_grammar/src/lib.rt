@@ -4,4 +4,6 @@
 
 mod grammar;
 
-pub use grammar::{grammar_viable, identifiers_read, levels_nest, one_reading, reading_finds};
+pub use grammar::{
+    grammar_viable, identifiers_read, levels_nest, one_reading, places_left_out, reading_finds,
+};

@@ -5,7 +5,7 @@ use Rattle.std.proofs.lemmas.Bool.Decides.{Decides-eqb}
 use Rattle.std.proofs.lemmas.List.{append-nil}
 use Rattle.cedar_tokens.specs.Lexemes.{TextToken}
 use Rattle.cedar_tokens.specs.declared.lexeme.Lexeme.{Lexeme}
-use Rattle.cedar_grammar.specs.Reading.{Reader, accepted, a_mark, looped, annotated_at, annots_at, item_at, decl_at, decl_round, item_round, schema_at, type_at, after, done}
+use Rattle.cedar_grammar.specs.Reading.{Reader, accepted, a_mark, annotated_at, decl_at, decl_round, item_round, schema_at, type_at, after, done}
 use Rattle.cedar_tree.specs.Trees.{Node, Text, Path, TypeTree, Annotated, Declaration, Namespace, between}
 use Rattle.cedar_parser.specs.Behind.{decls_behind, annotated_item}
 use Rattle.cedar_parser.specs.Giving.{tokens_of}

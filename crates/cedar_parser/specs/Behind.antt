@@ -1,26 +1,42 @@
 -- SPDX-License-Identifier: Apache-2.0
 -- What readers find behind a piece of which the whole keeps the place, the name or what was read so far.
-use Rattle.std.specs.Prelude.{List, codes, Some, option_map}
-use Rattle.cedar_grammar.specs.Grammar.{as_name, shape_at, behind_shape}
-use Rattle.cedar_grammar.specs.Reading.{Reader, ◌>>=◌, ◌>>◌, done, looped, expect, a_mark, path_behind, braced_at, annots_at, one_or_list_at, ref_at, above_at, shape_reader, tags_at, app_at, applies_at, tail_at, decl_round, item_at}
-use Rattle.cedar_tree.specs.Trees.{Node, Place, Text, Path, TypeTree, Annotated, AppDecl, Standard, Entity, ActionDecl, Action, Declaration, Namespace, placed, stands, between}
+use Rattle.std.specs.Prelude.{List, codes, Option, Some, option_map}
+use Rattle.cedar_grammar.specs.Grammar.{as_name, literal_value, shape_at, behind_shape}
+use Rattle.cedar_grammar.specs.Reading.{Reader, ◌>>=◌, ◌>>◌, done, looped, expect, a_mark, path_behind, braced_at, commas_at, annots_at, one_or_list_at, ref_at, above_at, shape_reader, tags_at, app_at, applies_at, tail_at, decl_round, item_at}
+use Rattle.cedar_tree.specs.Trees.{Node, Place, Text, Path, TypeTree, Annotated, AppDecl, ContextDecl, Standard, Entity, QualName, Action, Declaration, Namespace, placed, stands, between}
 
 -- the rest of a path that begins with this identifier, as a type
 unfoldable pub name_behind : Node Text → Reader (Node TypeTree)
 name_behind n = path_behind n >>= λ p. done (as_name p)
 
--- what follows the parents of entity types
-unfoldable pub standard_rest : Reader (Node TypeTree) → Node Text → List (Node Text) → List Path → Reader (Node Declaration)
-standard_rest type entity ns parents = do
+-- what follows the parents of entity types: their shape, the type of their tags, and where the whole stands, which begins at this word
+unfoldable pub standard_parts : Reader (Node TypeTree) → Node Text → Reader ((ContextDecl × Option (Node TypeTree)) × Place)
+standard_parts type entity = do
   shape ← shape_reader type
   tags ← tags_at type
   semicolon ← expect (a_mark (codes ";"))
-  done (placed (Entity (Standard (record {
-    names = ns;
-    member_of_types = parents;
-    attrs = shape_at shape (behind_shape tags semicolon.loc);
-    tags = option_map (λ p. p.1) tags;
-  }))) entity.loc semicolon.loc)
+  done ((shape_at shape (behind_shape tags semicolon.loc), option_map (λ p. p.1) tags), between entity.loc semicolon.loc)
+
+-- the same as a declaration of entity types with these names and parents
+unfoldable pub standard_rest : Reader (Node TypeTree) → Node Text → List (Node Text) → List Path → Reader (Node Declaration)
+standard_rest type entity ns parents = do
+  parts ← standard_parts type entity
+  done (stands (Entity (Standard (record { names = ns; member_of_types = parents; attrs = parts.0.0; tags = parts.0.1 }))) parts.1)
+
+-- what follows the choices of enumerated entity types: where the whole stands, which begins at this word
+unfoldable pub enum_end : Node Text → Reader Place
+enum_end entity = do
+  expect (a_mark (codes "]"))
+  semicolon ← expect (a_mark (codes ";"))
+  done (between entity.loc semicolon.loc)
+
+-- what follows `enum`: the choices, and where the whole stands
+unfoldable pub enum_parts : Node Text → Reader (List (Node Text) × Place)
+enum_parts entity = do
+  expect (a_mark (codes "["))
+  choices ← commas_at (expect literal_value)
+  loc ← enum_end entity
+  done (choices, loc)
 
 -- the `{` and the `}` that follow `attributes`
 unfoldable pub braces_behind : Reader (Node Text)
@@ -33,13 +49,19 @@ action_end action = do
   semicolon ← expect (a_mark (codes ";"))
   done (between action.loc semicolon.loc)
 
--- what follows the names of actions
-unfoldable pub action_rest : Reader (Node TypeTree) → Node Text → List (Node Text) → Reader (Node Declaration)
-action_rest type action ns = do
+-- what follows the names of actions: their parents, what they apply to, and where the whole stands, which begins at this word
+unfoldable pub action_parts : Reader (Node TypeTree) → Node Text → Reader ((List (Node QualName) × Option (Node (List (Node AppDecl)))) × Place)
+action_parts type action = do
   parents ← above_at (one_or_list_at ref_at)
   applies ← applies_at type
   loc ← action_end action
-  done (stands (Action (record { names = ns; parents = parents; app_decls = applies })) loc)
+  done ((parents, applies), loc)
+
+-- the same as a declaration of actions with these names
+unfoldable pub action_rest : Reader (Node TypeTree) → Node Text → List (Node Text) → Reader (Node Declaration)
+action_rest type action ns = do
+  parts ← action_parts type action
+  done (stands (Action (record { names = ns; parents = parts.0.0; app_decls = parts.0.1 })) parts.1)
 
 -- what follows the `{` of what an action applies to
 unfoldable pub apps_behind : Reader (Node TypeTree) → Node Text → Reader (Node (List (Node AppDecl)))

@@ -4,7 +4,7 @@ ghost use Rattle.cedar_text.specs.Lists.{elements};
 ghost use Rattle.cedar_tree.specs.Meanings.{node_of, listed, path_tree, qual_tree, scope_tree, app_tree, decl_tree};
 ghost use Rattle.cedar_grammar.specs.Reading.{above_at, braced_at, one_or_list_at, ref_at, scope_behind, context_behind, app_at, applies_at, tail_at, action_behind, type_at};
 ghost use Rattle.cedar_tree.specs.Trees.{Types, placed, stands};
-ghost use Rattle.cedar_parser.specs.Behind.{action_rest, action_end, apps_behind, braces_behind};
+ghost use Rattle.cedar_parser.specs.Behind.{action_parts, action_rest, action_end, apps_behind, braces_behind};
 ghost use Rattle.cedar_parser.specs.Giving.{Gives, tokens_of, lexeme_node};
 
 use crate::fault::Fault;
@@ -228,7 +228,34 @@ impl<'s> Parser<'s> {
         Ok(self.place(action.start, semicolon.end)?)
     }
 
-    /// Takes what follows the names of actions.
+    /// Takes what follows the names of actions: their parents, what they apply to, and the place of the whole, which
+    /// begins at this word.
+    #[tactic(auto, unfolding(crate::specs::Behind::action_parts))]
+    fn action_parts<'a>(
+        &self,
+        tokens: &mut Tokens<'_, 'a>,
+        action: Lexeme<'a>,
+    ) -> Out<
+        (
+            (
+                Option<NonEmpty<Node<QualName>>>,
+                Option<Node<NonEmpty<Node<AppDecl>>>>,
+            ),
+            Loc,
+        ),
+        Fault,
+    >
+        ensures read { (n : ℕ) → length tokens.old.rest.now < n → Gives (λ p. ((map (node_of qual_tree) (listed p.0.0), option_map (node_of (λ apps. map (node_of app_tree) (elements apps))) p.0.1), p.1)) (tokens_of self.now.source.now tokens.new.rest.now) result
+            (action_parts (type_at n) (lexeme_node self.now.source.now action.entry) (tokens_of self.now.source.now tokens.old.rest.now)) }
+        ensures shorter { OnOk result (length tokens.new.rest.now < length tokens.old.rest.now) }
+    {
+        let parents = self.actions_above(tokens)?;
+        let app_decls = self.applies(tokens)?;
+        let loc = self.action_end(tokens, action)?;
+        Ok(((parents, app_decls), loc))
+    }
+
+    /// Takes what follows the names of actions, as a declaration of these.
     #[tactic(auto, unfolding(crate::specs::Behind::action_rest))]
     fn action_rest<'a>(
         &self,
@@ -240,9 +267,8 @@ impl<'s> Parser<'s> {
             (action_rest (type_at n) (lexeme_node self.now.source.now action.entry) (map (node_of (λ text. text)) (elements names)) (tokens_of self.now.source.now tokens.old.rest.now)) }
         ensures shorter { OnOk result (length tokens.new.rest.now < length tokens.old.rest.now) }
     {
-        let parents = self.actions_above(tokens)?;
-        let app_decls = self.applies(tokens)?;
-        let loc = self.action_end(tokens, action)?;
+        let (parts, loc) = self.action_parts(tokens, action)?;
+        let (parents, app_decls) = parts;
         let decl = ActionDecl {
             names,
             parents,

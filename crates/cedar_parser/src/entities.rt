@@ -5,13 +5,14 @@ ghost use Rattle.cedar_text.specs.Lists.{elements};
 ghost use Rattle.cedar_grammar.specs.Grammar.{shape_at, behind_shape};
 ghost use Rattle.cedar_tree.specs.Meanings.{node_of, path_tree, context_tree, type_tree, decl_tree};
 ghost use Rattle.cedar_grammar.specs.Reading.{above_at, types_at, record_or_path, shape_reader, tags_at, standard_behind, enum_behind, entity_behind, type_at};
-ghost use Rattle.cedar_parser.specs.Behind.{standard_rest};
+ghost use Rattle.cedar_tree.specs.Trees.{between};
+ghost use Rattle.cedar_parser.specs.Behind.{standard_parts, standard_rest, enum_end, enum_parts};
 ghost use Rattle.cedar_parser.specs.Giving.{Gives, tokens_of, lexeme_node};
 
 use crate::fault::Fault;
 use crate::lists::{Idents, Literals, Paths};
 use crate::tokens::{Parser, Tokens};
-use cedar_data::{Dup, Items, Mem, Out};
+use cedar_data::{Dup, Items, Mem, Out, Text};
 use cedar_names::{Id, Loc, Node, NonEmpty};
 use cedar_tokens::Lexeme;
 use cedar_tree::{
@@ -120,6 +121,42 @@ impl<'s> Parser<'s> {
         }))
     }
 
+    /// The same with the place of the whole, from its word to this mark.
+    fn standard_end(
+        &self,
+        shape: Option<ContextDecl>,
+        tags: Option<(Loc, Node<Type>)>,
+        entity: Lexeme<'_>,
+        semicolon: Lexeme<'_>,
+    ) -> Mem<((ContextDecl, Option<Node<Type>>), Loc)>
+        ensures shape { IfOk result (λ p. context_tree p.0.0
+            ≡ shape_at (option_map context_tree shape) (behind_shape (option_map (λ p. (p.0, node_of type_tree p.1)) tags) (lexeme_node self.now.source.now semicolon.entry).loc)) }
+        ensures tags { IfOk result (λ p. p.0.1 ≡ option_map (λ t. t.1) tags) }
+        ensures place { IfOk result (λ p. p.1 ≡ between (lexeme_node self.now.source.now entity.entry).loc (lexeme_node self.now.source.now semicolon.entry).loc) }
+    {
+        let loc = self.place(entity.start, semicolon.end)?;
+        let parts = self.shape_and_tags(shape, tags, semicolon)?;
+        Ok((parts, loc))
+    }
+
+    /// Takes the shape and the tags of entity types as far as they stand next, and `;`: both, and the place of the
+    /// whole, which begins at this word.
+    #[tactic(auto, unfolding(crate::specs::Behind::standard_parts))]
+    fn standard_parts<'a>(
+        &self,
+        tokens: &mut Tokens<'_, 'a>,
+        entity: Lexeme<'a>,
+    ) -> Out<((ContextDecl, Option<Node<Type>>), Loc), Fault>
+        ensures read { (n : ℕ) → length tokens.old.rest.now < n → Gives (λ p. ((context_tree p.0.0, option_map (node_of type_tree) p.0.1), p.1)) (tokens_of self.now.source.now tokens.new.rest.now) result
+            (standard_parts (type_at n) (lexeme_node self.now.source.now entity.entry) (tokens_of self.now.source.now tokens.old.rest.now)) }
+        ensures shorter { OnOk result (length tokens.new.rest.now < length tokens.old.rest.now) }
+    {
+        let shape = self.shape(tokens)?;
+        let tags = self.tags(tokens)?;
+        let semicolon = self.expect_mark(tokens, ";")?;
+        Ok(self.standard_end(shape, tags, entity, semicolon)?)
+    }
+
     /// Takes what follows the parents of entity types.
     #[tactic(auto, unfolding(crate::specs::Behind::standard_rest))]
     fn standard_rest<'a>(
@@ -133,11 +170,8 @@ impl<'s> Parser<'s> {
             (standard_rest (type_at n) (lexeme_node self.now.source.now entity.entry) (map (node_of id_word) (elements names)) (map path_tree member_of_types) (tokens_of self.now.source.now tokens.old.rest.now)) }
         ensures shorter { OnOk result (length tokens.new.rest.now < length tokens.old.rest.now) }
     {
-        let shape = self.shape(tokens)?;
-        let tags = self.tags(tokens)?;
-        let semicolon = self.expect_mark(tokens, ";")?;
-        let (attrs, tags) = self.shape_and_tags(shape, tags, semicolon)?;
-        let loc = self.place(entity.start, semicolon.end)?;
+        let (parts, loc) = self.standard_parts(tokens, entity)?;
+        let (attrs, tags) = parts;
         let decl = StandardEntityDecl {
             names,
             member_of_types,
@@ -166,8 +200,36 @@ impl<'s> Parser<'s> {
         self.standard_rest(tokens, entity, names, member_of_types)
     }
 
-    /// Takes what follows `enum`.
-    #[tactic(auto, unfolding(cedar_grammar::specs::Reading::enum_behind))]
+    /// Takes the `]` and the `;` behind the choices: the place of the whole, which begins at this word.
+    #[tactic(auto, unfolding(crate::specs::Behind::enum_end))]
+    fn enum_end<'a>(&self, tokens: &mut Tokens<'_, 'a>, entity: Lexeme<'a>) -> Out<Loc, Fault>
+        ensures read { Gives (λ loc. loc) (tokens_of self.now.source.now tokens.new.rest.now) result
+            (enum_end (lexeme_node self.now.source.now entity.entry) (tokens_of self.now.source.now tokens.old.rest.now)) }
+        ensures shorter { OnOk result (length tokens.new.rest.now < length tokens.old.rest.now) }
+    {
+        self.expect_mark(tokens, "]")?;
+        let semicolon = self.expect_mark(tokens, ";")?;
+        Ok(self.place(entity.start, semicolon.end)?)
+    }
+
+    /// Takes what follows `enum`: the choices, and the place of the whole, which begins at this word.
+    #[tactic(auto, unfolding(crate::specs::Behind::enum_parts))]
+    fn enum_parts<'a>(
+        &self,
+        tokens: &mut Tokens<'_, 'a>,
+        entity: Lexeme<'a>,
+    ) -> Out<(NonEmpty<Node<Text>>, Loc), Fault>
+        ensures read { Gives (λ p. (map (node_of (λ text. text)) (elements p.0), p.1)) (tokens_of self.now.source.now tokens.new.rest.now) result
+            (enum_parts (lexeme_node self.now.source.now entity.entry) (tokens_of self.now.source.now tokens.old.rest.now)) }
+        ensures shorter { OnOk result (length tokens.new.rest.now < length tokens.old.rest.now) }
+    {
+        self.expect_mark(tokens, "[")?;
+        let choices = self.commas::<Literals>(tokens)?;
+        let loc = self.enum_end(tokens, entity)?;
+        Ok((choices, loc))
+    }
+
+    /// Takes what follows `enum`, as a declaration of these names.
     fn enumeration<'a>(
         &self,
         tokens: &mut Tokens<'_, 'a>,
@@ -178,13 +240,10 @@ impl<'s> Parser<'s> {
             (enum_behind (lexeme_node self.now.source.now entity.entry) (map (node_of id_word) (elements names)) (tokens_of self.now.source.now tokens.old.rest.now)) }
         ensures shorter { OnOk result (length tokens.new.rest.now < length tokens.old.rest.now) }
     {
-        self.expect_mark(tokens, "[")?;
-        let choices = self.commas::<Literals>(tokens)?;
-        self.expect_mark(tokens, "]")?;
-        let semicolon = self.expect_mark(tokens, ";")?;
-        let loc = self.place(entity.start, semicolon.end)?;
+        let (choices, loc) = self.enum_parts(tokens, entity)?;
+        let decl = EnumEntityDecl { names, choices };
         Ok(Node {
-            node: Declaration::Entity(EntityDecl::Enum(EnumEntityDecl { names, choices })),
+            node: Declaration::Entity(EntityDecl::Enum(decl)),
             loc,
         })
     }

@@ -8,3 +8,4 @@ pub mod Meanings
 pub mod Nesting
 pub mod Paths
 pub mod Trees
+pub mod Unplaced

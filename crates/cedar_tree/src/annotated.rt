@@ -1,15 +1,18 @@
 // SPDX-License-Identifier: Apache-2.0
-ghost use Rattle.std.specs.Prelude.{◌≡◌, ◌&&◌, Some, None, IfOk, refl};
+ghost use Rattle.std.specs.Prelude.{◌≡◌, ◌&&◌, Some, None, IfOk, option_map, refl};
+ghost use Rattle.std.specs.BTreeMap.{insert_entry};
 ghost use Rattle.std.specs.Cmp.{on_per, and_per, on_equiv, and_equiv, on_po, then_po, on_total, then_total, then_agrees, both_tied};
 ghost use Rattle.std.specs.Ordering.{ordering_then, partial_ordering_then};
-ghost use Rattle.cedar_names.specs.Annotating.{annotation_entries};
+ghost use Rattle.cedar_data.specs.Maps.{get, Puts};
+ghost use Rattle.cedar_names.specs.Annotating.{annotation_entries, any_cmp};
 ghost use Rattle.cedar_text.specs.Failures.{IfRefused};
 ghost use Rattle.cedar_tree.specs.Comparing.{annotations_eq, annotations_cmp, annotations-per, annotations-equiv, annotations-po, annotations-total, annotations-ties};
 ghost use Rattle.cedar_tree.specs.Annotating.{meaning, repeat_in, value_text};
+ghost use Rattle.cedar_tree.specs.declared.parse_error.UserError.TheVariants.{DuplicateAnnotations};
 
 use crate::parse_error::UserError;
 use cedar_data::{Dup, Failure, Map, Mem, Out, Text};
-use cedar_names::{Annotation, Annotations, AnyId, Node, Span};
+use cedar_names::{Annotation, Annotations, AnyId, Loc, Node, Span};
 use std::alloc::Global;
 use std::cmp::Ordering;
 
@@ -88,6 +91,19 @@ pub fn deduplicate_annotations<T: Drop>(
     ensures annotations { IfOk result (λ annotated. annotation_entries annotated.annotations ≡ meaning annotations.items) }
     ensures refused { IfRefused result (λ fault. repeat_in annotations.items ≡ Some fault) }
 {
+    let annotations = by_key(alloc, annotations)?;
+    Ok(Annotated { item, annotations })
+}
+
+/// What these annotations mean, by their keys; refused with the first key that repeats one before it.
+fn by_key(
+    alloc: Global,
+    annotations: Vec<Node<(Node<AnyId>, Option<Node<Text>>)>>,
+) -> Out<Annotations, UserError>
+    ensures once { IfOk result (λ _. repeat_in annotations.items ≡ None) }
+    ensures means { IfOk result (λ unique. annotation_entries unique ≡ meaning annotations.items) }
+    ensures refused { IfRefused result (λ fault. repeat_in annotations.items ≡ Some fault) }
+{
     let mut unique = Annotations::new(alloc);
     let mut places: Map<AnyId, Span> = Map::new(alloc);
     for annotation in annotations {
@@ -96,21 +112,42 @@ pub fn deduplicate_annotations<T: Drop>(
             loc,
         } = annotation;
         let place = key.loc.span();
-        if let Some(first) = places.get(&key.node) {
-            return Err(Failure::Refused(UserError::DuplicateAnnotations(key.node, *first, place)));
-        }
-        let val = value_text(alloc, value)?;
-        let meant = Annotation {
-            val,
-            loc: Some(loc),
-        };
-        unique.insert(key.node.dup(alloc)?, meant)?;
-        places.put(key.node, place)?;
+        note(&mut places, key.node.dup(alloc)?, place)?;
+        put_value(alloc, &mut unique, key.node, value, loc)?;
     }
-    Ok(Annotated {
-        item,
-        annotations: unique,
-    })
+    Ok(unique)
+}
+
+/// Notes the place of a key; refused where it was noted before.
+fn note(places: &mut Map<AnyId, Span>, key: AnyId, place: Span) -> Out<(), UserError>
+    ensures new { IfOk result (λ _. None ≡ get any_cmp places.old key) }
+    ensures puts { IfOk result (λ _. Puts any_cmp places.old places.new key place) }
+    ensures refused { IfRefused result (λ fault. option_map (λ first. DuplicateAnnotations key first place) (get any_cmp places.old key) ≡ Some fault) }
+{
+    if let Some(first) = places.get(&key) {
+        return Err(Failure::Refused(UserError::DuplicateAnnotations(key, *first, place)));
+    }
+    places.put(key, place)?;
+    Ok(())
+}
+
+/// Puts the value of an annotation at its key.
+fn put_value(
+    alloc: Global,
+    unique: &mut Annotations,
+    key: AnyId,
+    value: Option<Node<Text>>,
+    loc: Loc,
+) -> Mem<()>
+    ensures { IfOk result (λ _. annotation_entries unique.new ≡ insert_entry any_cmp (annotation_entries unique.old) key (record { val = value_text value; loc = Some loc })) }
+{
+    let val = value_text(alloc, value)?;
+    let meant = Annotation {
+        val,
+        loc: Some(loc),
+    };
+    unique.insert(key, meant)?;
+    Ok(())
 }
 
 /// The text of a value, the empty one where there is none.
