@@ -1,0 +1,10 @@
+-- SPDX-License-Identifier: Apache-2.0
+pub use Rattle.cedar_data.specs.formers
+pub mod Bindings
+pub mod Conditions
+pub mod Faults
+pub mod Gathering
+pub mod Lists
+pub mod Remembering
+pub mod Repeats
+pub mod TypeRepeats

@@ -1,0 +1,54 @@
+// SPDX-License-Identifier: Apache-2.0
+ghost use Rattle.std.specs.Prelude.{◌≡◌, [], IfOk};
+ghost use Rattle.cedar_tree.specs.Meanings.{attrs_tree, type_tree};
+ghost use Rattle.cedar_convert_faults.specs.TypeRepeats.{leftmost_repeat, repeat_among};
+
+use crate::repeats::Repeat;
+use cedar_data::{Dup, Items, Map, Mem, Text};
+use cedar_text::{Loc, Node};
+use cedar_tree::{Annotated, AttrDecl, Type};
+use std::alloc::Global;
+
+/// The leftmost attribute of a type that an earlier attribute of the same record has as its name, if there is one.
+#[cycle(repeats)]
+pub fn leftmost_repeat(alloc: Global, ty: &Type) -> Mem<Option<Repeat>>
+    ensures { IfOk result (λ repeat. repeat ≡ leftmost_repeat (type_tree ty.now)) }
+{
+    match ty {
+        Type::Set(element) => leftmost_repeat(alloc, &element.get().node),
+        Type::Ident(_) => Ok(None),
+        Type::Record(attrs) => repeat_among(alloc, attrs),
+    }
+}
+
+/// The same of the attributes of a record.
+#[cycle(repeats)]
+#[tactic(auto, using(crate::proofs::RecordRepeats::among))]
+pub(crate) fn repeat_among(
+    alloc: Global,
+    attrs: &Items<Node<Annotated<AttrDecl>>>,
+) -> Mem<Option<Repeat>>
+    ensures { IfOk result (λ repeat. repeat ≡ repeat_among (attrs_tree attrs.now) []) }
+{
+    let mut places: Map<Text, Loc> = Map::new(alloc);
+    for attr in attrs.as_slice() {
+        let decl = &attr.node.item;
+        if let Some(place) = places.get(&decl.name.node) {
+            let first = place.dup(alloc)?;
+            let second = decl.name.loc.dup(alloc)?;
+            let name = decl.name.node.dup(alloc)?;
+            return Ok(Some(Repeat {
+                name,
+                first,
+                second,
+            }));
+        }
+        if let Some(inner) = leftmost_repeat(alloc, &decl.ty.node)? {
+            return Ok(Some(inner));
+        }
+        let word = decl.name.node.dup(alloc)?;
+        let place = decl.name.loc.dup(alloc)?;
+        places.put(word, place)?;
+    }
+    Ok(None)
+}

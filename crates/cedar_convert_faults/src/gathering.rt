@@ -1,0 +1,67 @@
+// SPDX-License-Identifier: Apache-2.0
+ghost use Rattle.std.specs.Prelude.{◌≡◌, ◌++◌, map, IfOk};
+ghost use Rattle.cedar_tree.specs.Meanings.{schema_tree, annotated_tree, node_of, decl_tree};
+ghost use Rattle.cedar_convert_faults.specs.Gathering.{namespaces_of, gathered_tree, unnamed};
+
+use cedar_data::{Items, Mem};
+use cedar_names::Annotations;
+use cedar_text::Node;
+use cedar_tree::{Annotated, Declaration, Namespace, Path, Schema};
+use std::alloc::Global;
+
+/// The declarations of a namespace, with its name and annotations; those of the unnamed one have neither.
+#[derive(Debug, Drop)]
+pub struct Gathered {
+    pub name: Option<Path>,
+    pub annotations: Annotations,
+    pub decls: Items<Annotated<Node<Declaration>>>,
+}
+
+/// The named namespaces in the order of the text, and then one of all declarations that stand in none, if there are any.
+pub fn gather(alloc: Global, schema: Schema) -> Mem<Items<Gathered>>
+    ensures { IfOk result (λ all. map gathered_tree all ≡ namespaces_of (schema_tree schema)) }
+{
+    let mut all = Items::new(alloc);
+    let mut loose = Items::new(alloc);
+    for namespace in schema.into_vec() {
+        let Annotated { item, annotations } = namespace;
+        let Namespace {
+            name,
+            decls,
+            loc: _,
+        } = item;
+        match name {
+            None => {
+                for decl in decls.into_vec() {
+                    loose.push(decl)?;
+                }
+            }
+            Some(path) => all.push(Gathered {
+                name: Some(path),
+                annotations,
+                decls,
+            })?,
+        }
+    }
+    with_unnamed(alloc, all, loose)
+}
+
+/// The namespaces, and behind them the unnamed one of these declarations, if there are any.
+#[tactic(auto, using(crate::proofs::Unnamed::unnamed_last))]
+fn with_unnamed(
+    alloc: Global,
+    mut all: Items<Gathered>,
+    loose: Items<Annotated<Node<Declaration>>>,
+) -> Mem<Items<Gathered>>
+    ensures { IfOk result (λ more. map gathered_tree more ≡ map gathered_tree all ++ unnamed (map (annotated_tree (node_of decl_tree)) loose)) }
+{
+    if loose.is_empty() {
+        return Ok(all);
+    }
+    all.push(Gathered {
+        name: None,
+        annotations: Annotations::new(alloc),
+        decls: loose,
+    })?;
+    Ok(all)
+}
