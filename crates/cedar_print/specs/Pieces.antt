@@ -1,6 +1,6 @@
 -- SPDX-License-Identifier: Apache-2.0
 -- Printed text as a list of tokens with blanks between them.
-use Rattle.std.specs.Prelude.{ℕ, List, [], ◌∷◌, ◌++◌, map, Option, Some, codes}
+use Rattle.std.specs.Prelude.{ℕ, Bool, true, false, List, [], ◌∷◌, ◌++◌, Option, Some, codes}
 use Rattle.std.specs.Fmt.{◌++?◌}
 use Rattle.std.specs.List.{flat_map}
 use Rattle.cedar_text.specs.Escapes.{escaped}
@@ -50,6 +50,11 @@ following separator parts items = flat_map (λ item. separator ++ parts item) it
 abbrev pub separated : {A T : Type 0} → List A → (T → List A) → List T → List A
 separated separator parts [] = []
 separated separator parts (item ∷ items) = parts item ++ following separator parts items
+
+-- nothing before the first, and a separator before each other
+abbrev pub unless_first : {A : Type 0} → Bool → List A → List A
+unless_first true separator = []
+unless_first false separator = separator
 
 -- `, ` between items
 abbrev pub comma : {N : Type 0} → Pieces N

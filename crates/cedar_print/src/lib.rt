@@ -7,5 +7,5 @@ mod lists;
 mod quoted;
 
 pub use annotations::write_annotations;
-pub use lists::{write_list, write_quoted_list};
+pub use lists::{write_item, write_list, write_quoted_list};
 pub use quoted::Quoted;

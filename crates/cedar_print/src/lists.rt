@@ -32,12 +32,12 @@ fn write_separated<T: fmt::Display, W: fmt::Write>(
     let Some((first, others)) = items.split_first() else {
         return Ok(());
     };
-    write_first(first, f)?;
+    write_item(first, f)?;
     write_others(others, f)
 }
 
 /// Writes an item.
-fn write_first<T: fmt::Display, W: fmt::Write>(
+pub fn write_item<T: fmt::Display, W: fmt::Write>(
     first: &T,
     f: &mut fmt::Formatter<W>,
 ) -> fmt::Result
@@ -61,10 +61,7 @@ fn write_others<T: fmt::Display, W: fmt::Write>(
 }
 
 /// Writes an item behind `, `.
-fn write_other<T: fmt::Display, W: fmt::Write>(
-    other: &T,
-    f: &mut fmt::Formatter<W>,
-) -> fmt::Result
+fn write_other<T: fmt::Display, W: fmt::Write>(other: &T, f: &mut fmt::Formatter<W>) -> fmt::Result
     ensures { DisplaysOnOk W.write_str_gives f.old result (text_of T.output (comma ++ named other.now)) f.new }
 {
     write!(f, ", {other}")

@@ -10,5 +10,5 @@ use Rattle.cedar_print.proofs.lists.write_quoted_list.Goals as goal
 pub returns : goal.returns
 returns g c =
     Shows-three g.W.Write.write_str_gives nameless c.args.f.now c.write.new.self c.write_quoted_texts.new.f c.write-2.new.self c.write-2.result
-        (mark (codes "[") ∷ []) (separated comma quoted_alone (elements c.args.texts.now)) (mark (codes "]") ∷ [])
-        c.in_ok-write.ensures.writes c.in_ok-write_quoted_texts.ensures c.write-2.ensures.writes
+    (mark (codes "[") ∷ []) (separated comma quoted_alone (elements c.args.texts.now)) (mark (codes "]") ∷ [])
+    c.in_ok-write.ensures.writes c.in_ok-write_quoted_texts.ensures c.write-2.ensures.writes
