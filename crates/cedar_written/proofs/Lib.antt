@@ -5,6 +5,7 @@ pub mod Goes
 pub mod Keeps
 pub mod Names
 pub mod Possible
+pub mod Printing
 pub mod Same
 pub mod ThroughEquations
 pub mod TypeFolds

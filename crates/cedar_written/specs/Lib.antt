@@ -3,6 +3,7 @@ pub mod Answers
 pub mod Bare
 pub mod CommonTypeIds
 pub mod Possibilities
+pub mod Printed
 pub mod Qualifying
 pub mod Reference
 pub mod References

@@ -44,6 +44,14 @@ impl CommonTypeId {
     }
 }
 
+impl fmt::Display for CommonTypeId {
+    ghost output = { λ c. Some (unreserved_word (unreserved_of c)) };
+
+    fn fmt<W: fmt::Write>(&self, f: &mut fmt::Formatter<W>) -> fmt::Result {
+        self.id.fmt(f)
+    }
+}
+
 /// Whether no common type that is declared may have the word as its identifier.
 fn is_reserved_basename(word: &str) -> bool
     ensures { result ≡ is_reserved_basename word.now }

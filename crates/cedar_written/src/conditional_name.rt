@@ -11,6 +11,7 @@ use cedar_data::{Dup, Mem};
 use cedar_names::InternalName;
 use cedar_text::{Loc, NonEmpty, NonEmptyIter};
 use std::alloc::Global;
+use std::fmt;
 
 /// A name as a schema writes it, with the full names that it may stand for. The first of them that is declared counts.
 #[derive(Debug, Drop, PartialEq, Eq, PartialOrd, Ord, Hash)]
@@ -75,6 +76,19 @@ impl ConditionalName {
         ensures { result ≡ kind_of self.now }
     {
         self.reference_type
+    }
+}
+
+/// As it is written.
+impl fmt::Display for ConditionalName {
+    ghost use Rattle.std.specs.Prelude.{Some};
+    ghost use Rattle.cedar_text.specs.Joining.{joined};
+    ghost use Rattle.cedar_names.specs.Components.{components};
+
+    ghost output = { λ n. Some (joined (components (written (raw_of n)))) };
+
+    fn fmt<W: fmt::Write>(&self, f: &mut fmt::Formatter<W>) -> fmt::Result {
+        self.raw.fmt(f)
     }
 }
 

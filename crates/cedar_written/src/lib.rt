@@ -5,6 +5,7 @@
 
 mod common_type_id;
 mod conditional_name;
+mod display;
 mod laws;
 mod qualifying;
 mod raw_name;

@@ -16,6 +16,7 @@ use cedar_data::{Dup, Items, Mem, Out};
 use cedar_names::{Id, InternalName, Name, UnreservedId};
 use cedar_text::{Loc, NameFault, NonEmpty};
 use std::alloc::Global;
+use std::fmt;
 
 /// A name as a schema writes it, which may be unqualified within a namespace.
 #[derive(Debug, Drop, PartialEq, Eq, PartialOrd, Ord, Hash)]
@@ -139,6 +140,14 @@ fn other_possibilities(
     let mut names = Items::new(alloc);
     names.push(name.dup(alloc)?)?;
     Ok(names)
+}
+
+impl fmt::Display for RawName {
+    ghost output = { λ n. Some (joined (components (written n))) };
+
+    fn fmt<W: fmt::Write>(&self, f: &mut fmt::Formatter<W>) -> fmt::Result {
+        self.name.fmt(f)
+    }
 }
 
 impl Dup for RawName {

@@ -1,0 +1,11 @@
+// SPDX-License-Identifier: Apache-2.0
+//! Printed text as a list of tokens with blanks between them: quoted texts, lists in brackets, annotations.
+#![tactic(auto)]
+
+mod annotations;
+mod lists;
+mod quoted;
+
+pub use annotations::write_annotations;
+pub use lists::{write_item, write_list, write_quoted_list};
+pub use quoted::Quoted;
