@@ -1,0 +1,12 @@
+// SPDX-License-Identifier: Apache-2.0
+//! Definitions of namespaces under full names, and how they are made from the declarations of a schema.
+#![tactic(auto)]
+
+mod calls;
+mod copies;
+mod structures;
+
+pub use structures::{
+    ActionFragment, ActionsDef, CommonTypeDefs, EntityTypeFragment, EntityTypesDef,
+    ValidatorApplySpec, ValidatorNamespaceDef, ValidatorSchemaFragment,
+};
