@@ -1,0 +1,9 @@
+-- SPDX-License-Identifier: Apache-2.0
+pub mod Written
+pub mod WrittenViews
+pub mod Resolved
+pub mod ResolvedViews
+pub mod Meanings
+pub mod Unfolds
+pub mod Faults
+pub mod UnfoldPhases
