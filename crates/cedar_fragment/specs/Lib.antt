@@ -1,7 +1,5 @@
 -- SPDX-License-Identifier: Apache-2.0
 pub mod ActionUids
 pub mod Definitions
-pub mod JsonErrors
-pub mod JsonTexts
 pub mod References
 pub mod Shapes

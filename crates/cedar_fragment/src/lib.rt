@@ -8,14 +8,15 @@ mod action_uid;
 mod attributes_or_context;
 mod definition_copies;
 mod definitions;
-mod json_error;
-mod json_fault;
 mod laws;
 mod qualified;
 mod walked;
 
 pub use action_uid::ActionEntityUID;
 pub use attributes_or_context::AttributesOrContext;
+pub use cedar_json_fault::{
+    JsonDeserializationAdvice, JsonDeserializationError, JsonFault, JsonKind, JsonShape, NameKind,
+};
 pub use cedar_types::{CedarValueJson, ValueList, ValueListIter, ValueMap, ValueMapIter};
 pub use cedar_written::{
     CommonTypeId, ConditionalName, Never, Qualifying, RawName, RecordType, RefName, ReferenceType,
@@ -26,6 +27,4 @@ pub use definitions::{
     ActionType, ApplySpec, CommonType, EntityType, EntityTypeKind, Fragment, NamespaceDefinition,
     StandardEntityType,
 };
-pub use json_error::{JsonDeserializationAdvice, JsonDeserializationError};
-pub use json_fault::{JsonFault, JsonKind, JsonShape, NameKind};
 pub use laws::namespaces_are_walked_in_order;

@@ -1,8 +1,8 @@
 -- SPDX-License-Identifier: Apache-2.0
 use Rattle.std.specs.Prelude.{ℕ, List, Option}
-use Rattle.cedar_fragment.specs.declared.json_error.JsonDeserializationAdvice.{JsonDeserializationAdvice}
-use Rattle.cedar_fragment.specs.declared.json_error.JsonDeserializationError.{JsonDeserializationError}
-use Rattle.cedar_fragment.specs.declared.json_fault.JsonFault.{JsonFault}
+use Rattle.cedar_json_fault.specs.declared.json_error.JsonDeserializationAdvice.{JsonDeserializationAdvice}
+use Rattle.cedar_json_fault.specs.declared.json_error.JsonDeserializationError.{JsonDeserializationError}
+use Rattle.cedar_json_fault.specs.declared.json_fault.JsonFault.{JsonFault}
 
 -- the error of a fault behind these keys and places
 abbrev pub json_error : JsonFault → List (List ℕ) → Option JsonDeserializationAdvice → JsonDeserializationError

@@ -1,9 +1,9 @@
 // SPDX-License-Identifier: Apache-2.0
-ghost use Rattle.std.specs.Prelude.{◌≡◌, [], Some, IfOk};
+ghost use Rattle.std.specs.Prelude.{◌≡◌, [], ◌∷◌, Some, IfOk};
 ghost use Rattle.std.specs.Option.{option_map};
 ghost use Rattle.std.specs.String.{string_bytes};
-ghost use Rattle.cedar_fragment.specs.JsonErrors.{advice_of, fault_of, json_error, path_of};
-ghost use Rattle.cedar_fragment.specs.JsonTexts.{advice_text, fault_text};
+ghost use Rattle.cedar_json_fault.specs.JsonErrors.{advice_of, fault_of, json_error, path_of};
+ghost use Rattle.cedar_json_fault.specs.JsonTexts.{advice_text, fault_text};
 
 use crate::json_fault::JsonFault;
 use cedar_data::{Dup, Items, Mem, Text};
@@ -61,6 +61,37 @@ impl JsonDeserializationError {
         JsonDeserializationError {
             fault,
             path: Items::from_vec(path),
+            advice,
+        }
+    }
+
+    /// The same error, behind this key or place of the value in which it was found.
+    pub fn behind(self, alloc: Global, key: &str) -> Mem<JsonDeserializationError>
+        ensures { IfOk result (λ e. e ≡ json_error (fault_of self) (key.now ∷ path_of self) (advice_of self)) }
+    {
+        let key = Text::new(alloc, key)?;
+        let JsonDeserializationError {
+            fault,
+            path,
+            advice,
+        } = self;
+        let mut keys = path.into_vec();
+        keys.insert(0, key)?;
+        Ok(JsonDeserializationError::new(fault, keys, advice))
+    }
+
+    /// The same error, with this advice.
+    pub fn advised(self, advice: Option<JsonDeserializationAdvice>) -> JsonDeserializationError
+        ensures { result ≡ json_error (fault_of self) (path_of self) advice }
+    {
+        let JsonDeserializationError {
+            fault,
+            path,
+            advice: _,
+        } = self;
+        JsonDeserializationError {
+            fault,
+            path,
             advice,
         }
     }

@@ -1,8 +1,8 @@
 -- SPDX-License-Identifier: Apache-2.0
 use Rattle.std.proofs.Common.{take}
 use Rattle.std.specs.Fmt.{HasWritten, IsPlainFormatter}
-use Rattle.cedar_fragment.specs.JsonTexts.{others_text}
-use Rattle.cedar_fragment.proofs.json_fault.write_others.Given as goal
+use Rattle.cedar_json_fault.specs.JsonTexts.{others_text}
+use Rattle.cedar_json_fault.proofs.json_fault.write_others.Given as goal
 
 -- the ones so far are written, each after a comma
 abbrev pub invariant-loop-other : goal.invariant-loop-other

@@ -5,16 +5,16 @@ use Rattle.std.specs.List.{flat_map}
 use Rattle.cedar_text.specs.FaultTexts.{name_fault_text}
 use Rattle.cedar_names.specs.Identifiers.{unreserved_word}
 use Rattle.cedar_written.specs.CommonTypeIds.{reserved_basename_text}
-use Rattle.cedar_fragment.specs.declared.json_error.JsonDeserializationAdvice.{JsonDeserializationAdvice}
-use Rattle.cedar_fragment.specs.declared.json_error.JsonDeserializationAdvice.TheVariants as advice
-use Rattle.cedar_fragment.specs.declared.json_fault.JsonFault.{JsonFault}
-use Rattle.cedar_fragment.specs.declared.json_fault.JsonFault.TheVariants as fault
-use Rattle.cedar_fragment.specs.declared.json_fault.JsonKind.{JsonKind}
-use Rattle.cedar_fragment.specs.declared.json_fault.JsonKind.TheVariants as value
-use Rattle.cedar_fragment.specs.declared.json_fault.JsonShape.{JsonShape}
-use Rattle.cedar_fragment.specs.declared.json_fault.JsonShape.TheVariants as shape
-use Rattle.cedar_fragment.specs.declared.json_fault.NameKind.{NameKind}
-use Rattle.cedar_fragment.specs.declared.json_fault.NameKind.TheVariants as what
+use Rattle.cedar_json_fault.specs.declared.json_error.JsonDeserializationAdvice.{JsonDeserializationAdvice}
+use Rattle.cedar_json_fault.specs.declared.json_error.JsonDeserializationAdvice.TheVariants as advice
+use Rattle.cedar_json_fault.specs.declared.json_fault.JsonFault.{JsonFault}
+use Rattle.cedar_json_fault.specs.declared.json_fault.JsonFault.TheVariants as fault
+use Rattle.cedar_json_fault.specs.declared.json_fault.JsonKind.{JsonKind}
+use Rattle.cedar_json_fault.specs.declared.json_fault.JsonKind.TheVariants as value
+use Rattle.cedar_json_fault.specs.declared.json_fault.JsonShape.{JsonShape}
+use Rattle.cedar_json_fault.specs.declared.json_fault.JsonShape.TheVariants as shape
+use Rattle.cedar_json_fault.specs.declared.json_fault.NameKind.{NameKind}
+use Rattle.cedar_json_fault.specs.declared.json_fault.NameKind.TheVariants as what
 
 -- texts, each after a comma
 abbrev pub others_text : List (List ℕ) → List ℕ

@@ -1,8 +1,8 @@
 // SPDX-License-Identifier: Apache-2.0
 ghost use Rattle.std.specs.Prelude.{◌≡◌, ◌++◌, Some, IfOk, codes};
 ghost use Rattle.std.specs.Fmt.{WritesOnOk};
-ghost use Rattle.cedar_fragment.specs.JsonTexts.{listed, others_text};
-ghost use Rattle.cedar_fragment.specs.declared.json_fault.JsonFault.TheVariants.{InvalidName};
+ghost use Rattle.cedar_json_fault.specs.JsonTexts.{listed, others_text};
+ghost use Rattle.cedar_json_fault.specs.declared.json_fault.JsonFault.TheVariants.{InvalidName};
 
 use cedar_data::{Dup, Items, Mem, Text};
 use cedar_names::UnreservedId;
@@ -121,7 +121,7 @@ pub enum NameKind {
 }
 
 impl fmt::Display for JsonShape {
-    ghost use Rattle.cedar_fragment.specs.JsonTexts.{expected_text};
+    ghost use Rattle.cedar_json_fault.specs.JsonTexts.{expected_text};
 
     ghost output = { λ shape. Some (expected_text shape) };
 
@@ -147,7 +147,7 @@ impl fmt::Display for JsonShape {
 }
 
 impl fmt::Display for JsonKind {
-    ghost use Rattle.cedar_fragment.specs.JsonTexts.{kind_text};
+    ghost use Rattle.cedar_json_fault.specs.JsonTexts.{kind_text};
 
     ghost output = { λ kind. Some (kind_text kind) };
 
@@ -164,7 +164,7 @@ impl fmt::Display for JsonKind {
 }
 
 impl fmt::Display for NameKind {
-    ghost use Rattle.cedar_fragment.specs.JsonTexts.{named_text};
+    ghost use Rattle.cedar_json_fault.specs.JsonTexts.{named_text};
 
     ghost output = { λ what. Some (named_text what) };
 
@@ -205,7 +205,7 @@ fn write_others<W: fmt::Write>(others: &[Text], f: &mut fmt::Formatter<W>) -> fm
 }
 
 impl fmt::Display for JsonFault {
-    ghost use Rattle.cedar_fragment.specs.JsonTexts.{fault_text};
+    ghost use Rattle.cedar_json_fault.specs.JsonTexts.{fault_text};
 
     ghost output = { λ fault. Some (fault_text fault) };
 
@@ -246,7 +246,7 @@ impl fmt::Display for JsonFault {
 
 impl From<ReservedCommonTypeBasenameError> for JsonFault {
     ghost use Rattle.std.specs.Prelude.{◌≡◌};
-    ghost use Rattle.cedar_fragment.specs.declared.json_fault.JsonFault.TheVariants.{ReservedId};
+    ghost use Rattle.cedar_json_fault.specs.declared.json_fault.JsonFault.TheVariants.{ReservedId};
 
     ghost from_gives = { λ error fault. fault ≡ ReservedId error.id };
 
