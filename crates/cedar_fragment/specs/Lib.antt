@@ -3,5 +3,6 @@ pub mod ActionUids
 pub mod Definitions
 pub mod JsonErrors
 pub mod JsonTexts
+pub mod Printed
 pub mod References
 pub mod Shapes

@@ -4,13 +4,16 @@
 #![tactic(auto)]
 
 mod action_calls;
+mod action_display;
 mod action_uid;
 mod attributes_or_context;
 mod definition_copies;
 mod definitions;
+mod display;
 mod json_error;
 mod json_fault;
 mod laws;
+mod namespace_display;
 mod qualified;
 mod walked;
 
