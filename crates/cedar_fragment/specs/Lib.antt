@@ -1,5 +1,6 @@
 -- SPDX-License-Identifier: Apache-2.0
 pub mod ActionUids
 pub mod Definitions
+pub mod Printed
 pub mod References
 pub mod Shapes

@@ -4,11 +4,14 @@
 #![tactic(auto)]
 
 mod action_calls;
+mod action_display;
 mod action_uid;
 mod attributes_or_context;
 mod definition_copies;
 mod definitions;
+mod display;
 mod laws;
+mod namespace_display;
 mod qualified;
 mod walked;
 

@@ -29,9 +29,15 @@ module _ {N : Type 0} where
   optional_mark true = []
   optional_mark false = mark (codes "?") ∷ []
 
-  -- the type of sets of these elements
+  -- the type of sets of these elements, what stands before them and what stands behind
+  abbrev pub set_head : Pieces N
+  set_head = word (codes "Set") ∷ space ∷ mark (codes "<") ∷ space ∷ []
+
+  abbrev pub set_end : Pieces N
+  set_end = space ∷ mark (codes ">") ∷ []
+
   abbrev pub set_printed : Pieces N → Pieces N
-  set_printed element = word (codes "Set") ∷ space ∷ mark (codes "<") ∷ space ∷ (element ++ (space ∷ mark (codes ">") ∷ []))
+  set_printed element = set_head ++ (element ++ set_end)
 
   -- what is written of an attribute with its name
   abbrev pub with_name : List ℕ × OfAttribute N → Pieces N

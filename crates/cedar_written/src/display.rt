@@ -3,7 +3,7 @@ ghost use Rattle.std.specs.Fmt.{DisplaysOnOk};
 ghost use Rattle.cedar_data.specs.Maps.{map_values};
 ghost use Rattle.cedar_print.specs.Annotations.{nameless};
 ghost use Rattle.cedar_print.specs.Pieces.{separated, text_of, unless_first};
-ghost use Rattle.cedar_written.specs.Printed.{name_printed, next_line, print_attribute, print_record, print_type, print_variant, set_printed, with_name};
+ghost use Rattle.cedar_written.specs.Printed.{name_printed, next_line, print_attribute, print_record, print_type, print_variant, set_end, set_head, set_printed, with_name};
 
 use crate::ty::{RecordType, SchemaType, TypeOfAttribute, TypeVariant};
 use cedar_data::{Map, Text};
@@ -58,8 +58,22 @@ fn write_set<N: fmt::Display, W: fmt::Write>(
 ) -> fmt::Result
     ensures { DisplaysOnOk W.write_str_gives f.old result (text_of N.output (set_printed (print_type element.now))) f.new }
 {
-    write!(f, "Set < ")?;
+    write_set_head(f)?;
     element.fmt(f)?;
+    write_set_end(f)
+}
+
+/// Writes what stands before the type of the elements of a set.
+fn write_set_head<W: fmt::Write>(f: &mut fmt::Formatter<W>) -> fmt::Result
+    ensures { DisplaysOnOk W.write_str_gives f.old result (text_of nameless set_head) f.new }
+{
+    write!(f, "Set < ")
+}
+
+/// Writes what stands behind it.
+fn write_set_end<W: fmt::Write>(f: &mut fmt::Formatter<W>) -> fmt::Result
+    ensures { DisplaysOnOk W.write_str_gives f.old result (text_of nameless set_end) f.new }
+{
     write!(f, " >")
 }
 

@@ -5,10 +5,10 @@ use Rattle.std.specs.Prelude.{codes}
 use Rattle.std.specs.declared.result.Result.TheVariants.{Ok}
 use Rattle.cedar_data.specs.Maps.{map_values}
 use Rattle.cedar_print.specs.Annotations.{annotations_pieces}
-use Rattle.cedar_print.specs.Pieces.{mark, separated, space, word}
+use Rattle.cedar_print.specs.Pieces.{mark, separated}
 use Rattle.cedar_print.proofs.Prints.{Separates-end, Separates-next, Shows, Shows-three}
 use Rattle.cedar_print.proofs.Texts.{separated-values, text_of-annotations}
-use Rattle.cedar_written.specs.Printed.{name_printed, next_line, print_attribute, print_type, with_name}
+use Rattle.cedar_written.specs.Printed.{name_printed, next_line, print_attribute, print_type, set_end, set_head, with_name}
 use Rattle.cedar_written.specs.declared.ty.RecordType.{out-RecordType}
 use Rattle.cedar_written.specs.declared.ty.TypeOfAttribute.{out-TypeOfAttribute}
 use Rattle.cedar_written.proofs.Printing.{name-shown, print_attribute-is, print_record-is, separator-shown}
@@ -16,9 +16,9 @@ use Rattle.cedar_written.proofs.display.+show.Goals as goal
 
 pub write_set-returns : goal.write_set-returns
 write_set-returns g t c =
-    Shows-three g.W.Write.write_str_gives g.N.Display.output c.args.f.now c.write.new.self c.fmt.new.f c.write-2.new.self c.write-2.result
-        (word (codes "Set") ∷ space ∷ mark (codes "<") ∷ space ∷ []) (print_type c.args.element.now) (space ∷ mark (codes ">") ∷ [])
-        c.in_ok-write.ensures.writes c.in_ok-fmt.ensures.writes c.write-2.ensures.writes
+    Shows-three g.W.Write.write_str_gives g.N.Display.output c.args.f.now c.write_set_head.new.f c.fmt.new.f c.write_set_end.new.f c.write_set_end.result
+        set_head (print_type c.args.element.now) set_end
+        c.in_ok-write_set_head.ensures c.in_ok-fmt.ensures.writes c.write_set_end.ensures
 
 pub write_record-returns : goal.write_record-returns
 write_record-returns g t c =
