@@ -1,6 +1,11 @@
 -- SPDX-License-Identifier: Apache-2.0
 pub mod ClosureErrors
+pub mod ErrorPlaces
+pub mod ErrorTexts
 pub mod FullNames
+pub mod Joining
+pub mod ListTexts
 pub mod NameReferences
+pub mod NameTexts
 pub mod Refusals
 pub mod Told

@@ -1,6 +1,6 @@
 -- SPDX-License-Identifier: Apache-2.0
 -- References to types and to actions, as they are carried from their namespace: each with the names that it may stand for, places aside.
-use Rattle.std.specs.Prelude.{ℕ, List, [], ◌∷◌, map}
+use Rattle.std.specs.Prelude.{ℕ, List, [], map}
 use Rattle.std.specs.Option.{option_map_or}
 use Rattle.cedar_names.specs.Components.{components}
 use Rattle.cedar_text.specs.Lists.{elements}

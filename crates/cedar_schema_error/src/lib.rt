@@ -4,9 +4,15 @@
 
 mod action_behavior;
 mod conversions;
+mod help;
+mod joining;
 mod kept_errors;
 mod name_errors;
+mod name_texts;
+mod places;
 mod schema_error;
+mod shown;
+mod texts;
 mod type_errors;
 mod use_place;
 
