@@ -1,82 +1,119 @@
 // SPDX-License-Identifier: Apache-2.0
-use crate::fixtures::is_copied;
-use cedar_data::{Boxed, Dup, Items, Map, Mem, Set, Shared, Text};
+use crate::holding::{all_hold, is_copied};
+use crate::making::text;
+use cedar_data::{Boxed, Items, Map, Set, Shared};
 use std::alloc::Global;
 use std::test::Fail;
 
-#[test]
-fn texts_and_lists(rt: HostRuntime) -> Result<(), Fail> {
-    let alloc = rt.alloc();
-    let text = Text::new(alloc, "aé€😀")?;
-    assert_eq!(rt; text.as_str(), "aé€😀");
-    assert!(rt; is_copied(alloc, &text)?);
-    let mut items = Items::new(alloc);
-    items.push(1u32)?;
-    items.push(2u32)?;
-    assert_eq!(rt; items.as_slice(), [1, 2].as_slice());
-    assert!(rt; is_copied(alloc, &items)?);
-    assert_eq!(rt; items.into_vec().len(), 2);
-    Ok(())
+/// Whether a text is kept as it is.
+fn is_kept(alloc: Global, kept: &str) -> bool {
+    match text(alloc, kept) {
+        Some(text) => text.as_str() == kept,
+        None => false,
+    }
 }
 
-#[test]
-fn boxes(rt: HostRuntime) -> Result<(), Fail> {
-    let alloc = rt.alloc();
-    let boxed = Boxed::new(alloc, 7u32)?;
-    assert_eq!(rt; *boxed.dup(alloc)?.get(), 7);
-    let shared = Shared::new(alloc, 8u32)?;
-    assert_eq!(rt; *shared.dup(alloc)?.get(), 8);
-    assert!(rt; is_copied(alloc, &Some(3u32))?);
-    Ok(())
+/// The numbers 1 and 2.
+fn items(alloc: Global) -> Option<Items<u32>> {
+    let mut items = Items::new(alloc);
+    items.push(1u32).ok()?;
+    items.push(2u32).ok()?;
+    Some(items)
+}
+
+/// Whether these are the numbers 1 and 2.
+fn is_one_and_two(made: Option<Items<u32>>) -> bool {
+    match made {
+        Some(items) => { items.as_slice() == [1, 2].as_slice() && items.into_vec().len() == 2 }
+        None => false,
+    }
 }
 
 /// The map from 1 to 11 and from 2 to 21, each put in place of another value.
-fn map(alloc: Global) -> Mem<Map<u32, u32>> {
+fn map(alloc: Global) -> Option<Map<u32, u32>> {
     let mut map = Map::new(alloc);
-    map.put(2, 20)?;
-    map.put(1, 10)?;
-    map.put(2, 21)?;
-    map.put(1, 11)?;
-    Ok(map)
+    for (key, value) in [(2u32, 20u32), (1, 10), (2, 21), (1, 11)] {
+        map.put(key, value).ok()?;
+    }
+    Some(map)
 }
 
-#[test]
-fn maps(rt: HostRuntime) -> Result<(), Fail> {
-    let map = map(rt.alloc())?;
-    assert_eq!(rt; map.len(), 2);
-    assert_eq!(rt; map.get(&1).copied(), Some(11));
-    assert_eq!(rt; map.get(&2).copied(), Some(21));
-    assert_eq!(rt; map.get(&4).copied(), None);
-    assert!(rt; is_copied(rt.alloc(), &map)?);
-    Ok(())
+/// The map of the pairs of 2 and 20, of 1 and 11, and of 2 and 21.
+fn map_of_pairs(alloc: Global) -> Option<Map<u32, u32>> {
+    let pairs = vec![in alloc; (2u32, 20u32), (1, 11), (2, 21)].ok()?;
+    Map::from_pairs(alloc, pairs).ok()
 }
 
-#[test]
-fn maps_tell_what_stood(rt: HostRuntime) -> Result<(), Fail> {
-    let mut map = Map::new(rt.alloc());
-    assert_eq!(rt; map.insert(2u32, 20u32)?, None);
-    assert_eq!(rt; map.insert(1, 10)?, None);
-    assert_eq!(rt; map.insert(2, 21)?, Some(20));
-    Ok(())
+/// Whether this is the map from 1 to 11 and from 2 to 21.
+fn is_map(made: Option<Map<u32, u32>>) -> bool {
+    let Some(map) = made else {
+        return false;
+    };
+    let found = (
+        map.get(&1).copied(),
+        map.get(&2).copied(),
+        map.get(&4).copied(),
+    );
+    map.len() == 2 && found == (Some(11), Some(21), None)
 }
 
-#[test]
-fn maps_of_pairs(rt: HostRuntime) -> Result<(), Fail> {
-    let pairs = vec![in rt.alloc(); (2u32, 20u32), (1, 10), (2, 21)]?;
-    let made = Map::from_pairs(rt.alloc(), pairs)?;
-    assert_eq!(rt; made.len(), 2);
-    assert_eq!(rt; made.get(&2).copied(), Some(21));
-    Ok(())
+/// What stood in a map at 2, then at 1, then at 2 again, before each was put there.
+fn stood(alloc: Global) -> [Option<Option<u32>>; 3] {
+    let mut map = Map::new(alloc);
+    let first = map.insert(2u32, 20u32).ok();
+    let second = map.insert(1, 10).ok();
+    let third = map.insert(2, 21).ok();
+    [first, second, third]
 }
 
-#[test]
-fn sets(rt: HostRuntime) -> Result<(), Fail> {
-    let alloc = rt.alloc();
+/// Whether 2, then 1, then 2 again are new in a set.
+fn are_new(set: &mut Set<u32>) -> [Option<bool>; 3] {
+    let first = set.insert(2).ok();
+    let second = set.insert(1).ok();
+    let third = set.insert(2).ok();
+    [first, second, third]
+}
+
+/// The set of 1 and 2, if these are two.
+fn set(alloc: Global) -> Option<Set<u32>> {
     let mut set = Set::new(alloc);
-    assert!(rt; set.insert(2u32)?);
-    assert!(rt; set.insert(1)?);
-    assert!(rt; !set.insert(2)?);
-    assert_eq!(rt; set.len(), 2);
-    assert!(rt; is_copied(alloc, &set)?);
-    Ok(())
+    let is_right = are_new(&mut set) == [Some(true), Some(true), Some(false)];
+    if is_right && set.len() == 2 {
+        Some(set)
+    } else {
+        None
+    }
+}
+
+#[test]
+fn texts_lists_and_boxes(rt: HostRuntime) -> Result<(), Fail> {
+    let alloc = rt.alloc();
+    all_hold(&[
+        ("a text is kept", is_kept(alloc, "aé€😀")),
+        ("a text is copied", is_copied(alloc, text(alloc, "aé€😀"))),
+        ("items are kept", is_one_and_two(items(alloc))),
+        ("items are copied", is_copied(alloc, items(alloc))),
+        (
+            "a box is copied",
+            is_copied(alloc, Boxed::new(alloc, 7u32).ok()),
+        ),
+        (
+            "a shared value is copied",
+            is_copied(alloc, Shared::new(alloc, 8u32).ok()),
+        ),
+        ("an option is copied", is_copied(alloc, Some(Some(3u32)))),
+    ])
+}
+
+#[test]
+fn maps_and_sets(rt: HostRuntime) -> Result<(), Fail> {
+    let alloc = rt.alloc();
+    let wanted = [Some(None), Some(None), Some(Some(20))];
+    all_hold(&[
+        ("values are put in place", is_map(map(alloc))),
+        ("a map is copied", is_copied(alloc, map(alloc))),
+        ("a map is of its pairs", is_map(map_of_pairs(alloc))),
+        ("a map tells what stood", stood(alloc) == wanted),
+        ("a set is copied", is_copied(alloc, set(alloc))),
+    ])
 }

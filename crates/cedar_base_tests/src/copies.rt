@@ -1,137 +1,126 @@
 // SPDX-License-Identifier: Apache-2.0
-use crate::fixtures::{id, internal, is_copied, place, placed_name};
-use cedar_data::{Dup, Mem, Text};
-use cedar_names::{
-    Annotation, AnyId, Eid, EntityType, EntityUID, Extensions, Name, NonEmpty, UnreservedId,
-};
-use cedar_text::{EscapedByte, Node, Span};
+use crate::holding::{all_hold, is_copied, is_copied_in_place};
+use crate::making::{eid, entity_type, id, place, placed_name, text, uid, unreserved_name};
+use cedar_data::Dup;
+use cedar_names::{Annotation, AnyId, Extensions, NonEmpty, UnreservedId};
+use cedar_text::{EscapedByte, Loc, Span};
 use cedar_tokens::{Lexeme, NoToken, Token, TokenKind};
 use std::alloc::Global;
 use std::test::Fail;
 
-#[test]
-fn of_places(rt: HostRuntime) -> Result<(), Fail> {
-    let alloc = rt.alloc();
-    let loc = place(alloc)?;
-    let span = loc.span();
-    assert!(rt; is_copied(alloc, &loc)?);
-    assert_eq!(rt; span, Span { start: 1, end: 4 });
-    assert!(rt; is_copied(alloc, &span)?);
-    let node = Node::with_source_loc(7u32, loc);
-    let copy = node.dup(alloc)?;
-    assert_eq!(rt; copy.node, 7);
-    assert_eq!(rt; copy.loc, node.loc);
-    Ok(())
+/// Whether a place has this span.
+fn has_span(made: Option<Loc>, span: Span) -> bool {
+    match made {
+        Some(loc) => loc.span() == span,
+        None => false,
+    }
 }
 
-#[test]
-fn of_identifiers(rt: HostRuntime) -> Result<(), Fail> {
-    let alloc = rt.alloc();
-    let unreserved = UnreservedId::from_normalized_str(alloc, "A")
-        .ok()
-        .ok_or("refused")?;
-    assert!(rt; is_copied(alloc, &unreserved)?);
-    assert!(rt; is_copied(alloc, &id(alloc, "a")?)?);
-    Ok(())
+/// The identifier `A`, which isn't reserved.
+fn unreserved(alloc: Global) -> Option<UnreservedId> {
+    UnreservedId::from_normalized_str(alloc, "A").ok()
 }
 
-#[test]
-fn of_words_and_ids(rt: HostRuntime) -> Result<(), Fail> {
-    let alloc = rt.alloc();
-    let any = AnyId::new(alloc, "in")?.ok_or("no word")?;
-    assert!(rt; is_copied(alloc, &any)?);
-    let eid = Eid::new(Text::new(alloc, "x'y")?);
-    assert!(rt; is_copied(alloc, &eid)?);
-    Ok(())
+/// The word `in`.
+fn word(alloc: Global) -> Option<AnyId> {
+    AnyId::new(alloc, "in").ok()?
 }
 
-#[test]
-fn of_names(rt: HostRuntime) -> Result<(), Fail> {
-    let alloc = rt.alloc();
-    let internal = placed_name(alloc)?;
-    let copy = internal.dup(alloc)?;
-    assert_eq!(rt; copy, internal);
-    assert_eq!(rt; copy.loc(), internal.loc());
-    let name = Name::from_internal(internal).ok().ok_or("reserved")?;
-    let copy = name.dup(alloc)?;
-    assert_eq!(rt; copy, name);
-    assert_eq!(rt; copy.as_internal().loc(), name.as_internal().loc());
-    Ok(())
+/// The annotation of a value at that place.
+fn annotation(alloc: Global) -> Option<Annotation> {
+    let val = text(alloc, "value")?;
+    Some(Annotation {
+        val,
+        loc: place(alloc),
+    })
 }
 
-/// The type `foo::bar::baz`.
-fn entity_type(alloc: Global) -> Result<EntityType, Fail> {
-    let name = Name::from_internal(internal(alloc, "foo::bar::baz")?);
-    let name = name.ok().ok_or("reserved")?;
-    Ok(EntityType::from_name(name))
-}
-
-#[test]
-fn of_entities(rt: HostRuntime) -> Result<(), Fail> {
-    let alloc = rt.alloc();
-    let ty = entity_type(alloc)?;
-    assert!(rt; is_copied(alloc, &ty)?);
-    let eid = Eid::new(Text::new(alloc, "x'y")?);
-    let uid = EntityUID::from_components(ty, eid, Some(place(alloc)?));
-    let copy = uid.dup(alloc)?;
-    assert_eq!(rt; copy, uid);
-    assert_eq!(rt; copy.loc(), uid.loc());
-    Ok(())
-}
-
-#[test]
-fn of_annotations(rt: HostRuntime) -> Result<(), Fail> {
-    let alloc = rt.alloc();
-    let annotation = Annotation {
-        val: Text::new(alloc, "value")?,
-        loc: Some(place(alloc)?),
-    };
-    let copy = annotation.dup(alloc)?;
-    assert_eq!(rt; copy, annotation);
-    assert_eq!(rt; copy.loc, annotation.loc);
-    Ok(())
-}
-
-#[test]
-fn of_lists(rt: HostRuntime) -> Result<(), Fail> {
-    let alloc = rt.alloc();
+/// The numbers 1 and 2, if these are two.
+fn list(alloc: Global) -> Option<NonEmpty<u32>> {
     let mut list = NonEmpty::singleton(alloc, 1u32);
-    list.push(2)?;
-    assert_eq!(rt; list.len(), 2);
-    assert!(rt; is_copied(alloc, &list)?);
-    assert!(rt; is_copied(alloc, &Extensions::all_available(alloc)?)?);
-    let escaped = EscapedByte::of(7).dup(alloc)?;
-    assert_eq!(rt; escaped.as_bytes(), b"\\u{7}".as_slice());
-    Ok(())
+    list.push(2).ok()?;
+    if list.len() == 2 { Some(list) } else { None }
 }
 
-/// Whether the copies of a kind of tokens, and of a token of it, are equal to their sources.
-fn is_kind_copied(alloc: Global, kind: TokenKind) -> Mem<bool> {
+/// Whether the escape of a byte that needs one is copied.
+fn is_escape_copied(alloc: Global) -> bool {
+    match EscapedByte::of(7).dup(alloc) {
+        Ok(copy) => copy.as_bytes() == b"\\u{7}".as_slice(),
+        Err(_) => false,
+    }
+}
+
+/// Whether a kind of tokens, and a token of it, are copied.
+fn is_kind_copied(alloc: Global, kind: TokenKind) -> bool {
     let (start, end) = (1, 3);
-    Ok(is_copied(alloc, &kind)? && is_copied(alloc, &Token { kind, start, end })?)
+    is_copied(alloc, Some(kind)) && is_copied(alloc, Some(Token { kind, start, end }))
+}
+
+/// Whether a token with its text is copied.
+fn is_lexeme_copied(alloc: Global) -> bool {
+    let (kind, start, end) = (TokenKind::Str, 1, 3);
+    let lexeme = Lexeme {
+        kind,
+        text: "ab",
+        start,
+        end,
+    };
+    match lexeme.dup(alloc) {
+        Ok(copy) => copy.kind == kind && copy.text == "ab" && (copy.start, copy.end) == (1, 3),
+        Err(_) => false,
+    }
+}
+
+#[test]
+fn of_values_with_places(rt: HostRuntime) -> Result<(), Fail> {
+    let alloc = rt.alloc();
+    let span = Span { start: 1, end: 4 };
+    all_hold(&[
+        ("a place", is_copied(alloc, place(alloc))),
+        ("the span of a place", has_span(place(alloc), span)),
+        ("a span", is_copied(alloc, Some(span))),
+        ("a name", is_copied_in_place(alloc, placed_name(alloc))),
+        (
+            "an unreserved name",
+            is_copied_in_place(alloc, unreserved_name(alloc)),
+        ),
+        (
+            "an entity type",
+            is_copied_in_place(alloc, entity_type(alloc)),
+        ),
+        ("an entity", is_copied_in_place(alloc, uid(alloc))),
+        ("an annotation", is_copied(alloc, annotation(alloc))),
+    ])
+}
+
+#[test]
+fn of_words_and_lists(rt: HostRuntime) -> Result<(), Fail> {
+    let alloc = rt.alloc();
+    all_hold(&[
+        (
+            "an unreserved identifier",
+            is_copied(alloc, unreserved(alloc)),
+        ),
+        ("an identifier", is_copied(alloc, id(alloc, "a"))),
+        ("a word", is_copied(alloc, word(alloc))),
+        ("an id", is_copied(alloc, eid(alloc))),
+        ("a list", is_copied(alloc, list(alloc))),
+        (
+            "extensions",
+            is_copied(alloc, Extensions::all_available(alloc).ok()),
+        ),
+        ("an escape", is_escape_copied(alloc)),
+    ])
 }
 
 #[test]
 fn of_tokens(rt: HostRuntime) -> Result<(), Fail> {
     let alloc = rt.alloc();
-    assert!(rt; is_kind_copied(alloc, TokenKind::Word)?);
-    assert!(rt; is_kind_copied(alloc, TokenKind::Str)?);
-    assert!(rt; is_kind_copied(alloc, TokenKind::Punct)?);
-    assert!(rt; is_copied(alloc, &NoToken { location: 7 })?);
-    Ok(())
-}
-
-#[test]
-fn of_lexemes(rt: HostRuntime) -> Result<(), Fail> {
-    let lexeme = Lexeme {
-        kind: TokenKind::Str,
-        text: "ab",
-        start: 1,
-        end: 3,
-    };
-    let copy = lexeme.dup(rt.alloc())?;
-    assert_eq!(rt; copy.kind, TokenKind::Str);
-    assert_eq!(rt; copy.text, "ab");
-    assert_eq!(rt; (copy.start, copy.end), (1, 3));
-    Ok(())
+    all_hold(&[
+        ("words", is_kind_copied(alloc, TokenKind::Word)),
+        ("literals", is_kind_copied(alloc, TokenKind::Str)),
+        ("marks", is_kind_copied(alloc, TokenKind::Punct)),
+        ("no token", is_copied(alloc, Some(NoToken { location: 7 }))),
+        ("a token with its text", is_lexeme_copied(alloc)),
+    ])
 }

@@ -1,8 +1,11 @@
 // SPDX-License-Identifier: Apache-2.0
-//! Tests of the base data, of texts, names, tokens, types and closures: what no row can say, as copies and their places,
-//! collections, and what is built by calls.
+//! Tests of the base data, of texts, names, tokens, types, closures and streams: what no row can say, as copies and
+//! their places, collections, and what is built by calls. A test is a list of plain answers, each worked out by a small
+//! function in which few values live, since the proof of a test grows with the square of what lives there.
 #![tactic(auto)]
 
+#[cfg(test)]
+mod breaking;
 #[cfg(test)]
 mod collections;
 #[cfg(test)]
@@ -10,10 +13,16 @@ mod copies;
 #[cfg(test)]
 mod fault_copies;
 #[cfg(test)]
-mod fixtures;
+mod holding;
 #[cfg(test)]
-mod help_and_places;
+mod making;
+#[cfg(test)]
+mod memory_streams;
 #[cfg(test)]
 mod name_calls;
+#[cfg(test)]
+mod refusals;
+#[cfg(test)]
+mod std_streams;
 #[cfg(test)]
 mod type_calls;

@@ -1,93 +1,128 @@
 // SPDX-License-Identifier: Apache-2.0
-use crate::fixtures::{id, is_copied, place, placed_name};
-use cedar_data::{Failure, Mem, Out, Text};
-use cedar_names::{
-    Annotation, Annotations, AnyId, Eid, EntityType, EntityUID, Id, InternalName, Name,
-    UnreservedId,
-};
+use crate::holding::{all_hold, are_equal, is_copied, is_written};
+use crate::making::{placed_name, text, uid};
+use cedar_data::{Failure, Out};
+use cedar_names::{Annotation, Annotations, AnyId, Id, InternalName, Name, UnreservedId};
 use cedar_text::NameFault;
 use std::alloc::Global;
 use std::test::Fail;
 
-#[test]
-fn known_words(rt: HostRuntime) -> Result<(), Fail> {
-    let alloc = rt.alloc();
-    assert_eq!(rt; UnreservedId::known(alloc, "a_1")?.as_ref(), "a_1");
-    let words = vec![in alloc; Text::new(alloc, "A")?, Text::new(alloc, "B")?]?;
-    let made = Name::of_words(alloc, words).ok().ok_or("refused")?;
-    assert_eq!(rt; made.to_string(alloc)?.as_str(), "A::B");
-    Ok(())
+/// A word that is known to be an identifier.
+fn known(alloc: Global) -> Option<UnreservedId> {
+    UnreservedId::known(alloc, "a_1").ok()
 }
 
-#[test]
-fn names_of_components(rt: HostRuntime) -> Result<(), Fail> {
-    let alloc = rt.alloc();
-    let namespace = vec![in alloc; id(alloc, "foo")?, id(alloc, "bar")?]?;
-    let name = InternalName::new(id(alloc, "baz")?, namespace, Some(place(alloc)?));
-    assert_eq!(rt; name.to_string(alloc)?.as_str(), "foo::bar::baz");
-    assert!(rt; !name.is_unqualified());
-    assert!(rt; name.loc().is_some());
-    Ok(())
+/// The name of the words `A` and `B`.
+fn of_words(alloc: Global) -> Option<Name> {
+    let words = vec![in alloc; text(alloc, "A")?, text(alloc, "B")?].ok()?;
+    Name::of_words(alloc, words).ok()
 }
 
-#[test]
-fn reserved_names(rt: HostRuntime) -> Result<(), Fail> {
-    let alloc = rt.alloc();
-    assert_eq!(rt; Id::cedar(alloc)?.as_ref(), "__cedar");
-    assert!(rt; InternalName::cedar(alloc)?.is_reserved());
-    assert!(rt; Name::from_internal(InternalName::cedar(alloc)?).is_err());
-    let word = Text::new(alloc, "in")?;
+/// What is said of the word `in`.
+fn reserved(alloc: Global) -> Option<NameFault> {
     let refused: Out<(), NameFault> = cedar_text::reserved(alloc, "in");
-    assert_eq!(rt;
-        refused,
-        Err(Failure::Refused(NameFault::Reserved { word }))
-    );
-    Ok(())
+    match refused {
+        Err(Failure::Refused(fault)) => Some(fault),
+        _ => None,
+    }
 }
 
-/// The type of this name.
-fn entity_type(alloc: Global, name: InternalName) -> Result<EntityType, Fail> {
-    let name = Name::from_internal(name).ok().ok_or("reserved")?;
-    Ok(EntityType::from_name(name))
+/// What it has to be.
+fn wanted(alloc: Global) -> Option<NameFault> {
+    let word = text(alloc, "in")?;
+    Some(NameFault::Reserved { word })
 }
 
-#[test]
-fn entities_of_components(rt: HostRuntime) -> Result<(), Fail> {
-    let alloc = rt.alloc();
-    let name = placed_name(alloc)?;
-    let eid = Eid::new(Text::new(alloc, "x'y")?);
-    let uid = EntityUID::from_components(entity_type(alloc, name)?, eid, None);
-    assert_eq!(rt; uid.to_string(alloc)?.as_str(), "A::B::\"x\\'y\"");
-    assert_eq!(rt; uid.eid().as_str(), "x'y");
-    assert!(rt; !uid.entity_type().is_action());
-    Ok(())
+/// The annotation of this value, with no place.
+fn annotation(alloc: Global, value: &str) -> Option<Annotation> {
+    let val = text(alloc, value)?;
+    Some(Annotation { val, loc: None })
 }
 
-/// An annotation of this value.
-fn annotation(alloc: Global, value: &str) -> Mem<Annotation> {
-    let val = Text::new(alloc, value)?;
-    Ok(Annotation { val, loc: None })
+/// The word `in`.
+fn key(alloc: Global) -> Option<AnyId> {
+    AnyId::new(alloc, "in").ok()?
+}
+
+/// Puts an annotation at the key `in`.
+fn annotate(alloc: Global, annotations: &mut Annotations, value: &str) -> Option<()> {
+    match (key(alloc), annotation(alloc, value)) {
+        (Some(key), Some(annotation)) => annotations.insert(key, annotation).ok(),
+        _ => None,
+    }
 }
 
 /// Annotations at the key `in`, of which the second stays.
-fn annotations(alloc: Global) -> Result<Annotations, Fail> {
+fn annotations(alloc: Global) -> Option<Annotations> {
     let mut annotations = Annotations::new(alloc);
-    for value in ["first", "second"] {
-        let key = AnyId::new(alloc, "in")?.ok_or("no word")?;
-        annotations.insert(key, annotation(alloc, value)?)?;
+    annotate(alloc, &mut annotations, "first")?;
+    annotate(alloc, &mut annotations, "second")?;
+    Some(annotations)
+}
+
+/// Whether the second annotation stays, and is the only one.
+fn is_second(made: Option<Annotations>) -> bool {
+    match made {
+        Some(annotations) => {
+            has_second(&annotations)
+                && annotations.get("is").is_none()
+                && annotations.iter().count() == 1
+        }
+        None => false,
     }
-    Ok(annotations)
+}
+
+fn has_second(annotations: &Annotations) -> bool {
+    match annotations.get("in") {
+        Some(found) => found.val.as_str() == "second",
+        None => false,
+    }
 }
 
 #[test]
-fn annotations_by_key(rt: HostRuntime) -> Result<(), Fail> {
+fn of_names(rt: HostRuntime) -> Result<(), Fail> {
     let alloc = rt.alloc();
-    assert!(rt; Annotations::new(alloc).is_empty());
-    let annotations = annotations(alloc)?;
-    let found = annotations.get("in").ok_or("no annotation")?;
-    assert_eq!(rt; found.val.as_str(), "second");
-    assert!(rt; annotations.get("is").is_none());
-    assert_eq!(rt; annotations.iter().count(), 1);
-    assert!(rt; is_copied(alloc, &annotations)?);
-    Ok(())
+    all_hold(&[
+        (
+            "a known word is kept",
+            is_written(alloc, known(alloc), "a_1"),
+        ),
+        (
+            "words make a name",
+            is_written(alloc, of_words(alloc), "A::B"),
+        ),
+        (
+            "a name is written",
+            is_written(alloc, placed_name(alloc), "A::B"),
+        ),
+        (
+            "`__cedar` is written",
+            is_written(alloc, Id::cedar(alloc).ok(), "__cedar"),
+        ),
+        (
+            "`__cedar` is a name",
+            is_written(alloc, InternalName::cedar(alloc).ok(), "__cedar"),
+        ),
+        (
+            "`in` is refused",
+            are_equal(reserved(alloc), wanted(alloc)) == Some(true),
+        ),
+    ])
+}
+
+#[test]
+fn of_entities_and_annotations(rt: HostRuntime) -> Result<(), Fail> {
+    let alloc = rt.alloc();
+    all_hold(&[
+        (
+            "an entity is written",
+            is_written(alloc, uid(alloc), "A::B::\"x\\'y\""),
+        ),
+        ("no annotations", Annotations::new(alloc).is_empty()),
+        ("the second stays", is_second(annotations(alloc))),
+        (
+            "annotations are copied",
+            is_copied(alloc, annotations(alloc)),
+        ),
+    ])
 }

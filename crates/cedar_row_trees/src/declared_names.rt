@@ -1,18 +1,21 @@
 // SPDX-License-Identifier: Apache-2.0
 use crate::lines::Lines;
-use crate::telling::refusal_told;
-use cedar_data::{Failure, Mem, NoMemory};
+use crate::telling::refusal_line;
+use cedar_data::Mem;
 use cedar_syntax::{Decl, Declaration, EntityDecl, Schema, parse_schema};
 use std::alloc::Global;
 
 /// The names that each declaration of a schema gives, with their places; or why the text is no schema.
 pub fn names(alloc: Global, input: &str) -> Mem<String> {
-    let mut lines = Lines::new(alloc);
     match parse_schema(alloc, input) {
-        Ok(schema) => add_names(&mut lines, &schema)?,
-        Err(Failure::Refused(errors)) => lines.add(refusal_told(alloc, errors)?.as_str())?,
-        Err(Failure::NoMemory) => return Err(NoMemory),
+        Ok(schema) => names_told(alloc, &schema),
+        Err(failure) => refusal_line(alloc, failure),
     }
+}
+
+fn names_told(alloc: Global, schema: &Schema) -> Mem<String> {
+    let mut lines = Lines::new(alloc);
+    add_names(&mut lines, schema)?;
     Ok(lines.into_text())
 }
 

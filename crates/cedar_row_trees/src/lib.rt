@@ -3,41 +3,33 @@
 //! text. Places are in bytes.
 #![tactic(auto)]
 
-mod annotating;
 mod declared_names;
 mod each_word;
-mod error_lines;
 mod lexing;
 mod lines;
-mod paths;
 mod pieces;
 mod schema_pieces;
 mod telling;
 mod types;
 
-pub use annotating::annotations;
 use cedar_data::Mem;
 pub use declared_names::names;
 pub use each_word::each;
-pub use error_lines::errors;
 pub use lexing::syntax_tokens;
-pub use lines::Lines;
-pub use paths::path;
+pub use lines::{Lines, line_of};
+pub use pieces::add_annotations;
 use std::alloc::Global;
-pub use telling::{tell, tree};
+pub use telling::{refusal_line, rule_told, tell, tree};
 
 /// What the verb of this name answers to the words behind it and to an input; none where there is no such verb.
 pub fn answer(alloc: Global, verb: &str, words: &[&str], input: &str) -> Mem<Option<String>> {
     let lines = match verb {
-        "annotations" => annotations(alloc, input)?,
-        "each" => each(alloc, words, input)?,
-        "names" => names(alloc, input)?,
-        "parse-errors" => errors(alloc, input)?,
-        "path" => path(alloc, words, input)?,
-        "syntax-tokens" => syntax_tokens(alloc, input)?,
-        "tell" => tell(alloc, input)?,
-        "tree" => tree(alloc, input)?,
+        "each" => each(alloc, words, input),
+        "names" => names(alloc, input),
+        "syntax-tokens" => syntax_tokens(alloc, input),
+        "tell" => tell(alloc, input),
+        "tree" => tree(alloc, input),
         _ => return Ok(None),
     };
-    Ok(Some(lines))
+    Ok(Some(lines?))
 }

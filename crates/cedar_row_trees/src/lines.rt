@@ -29,6 +29,11 @@ impl Lines {
         self.add_deep(0, line)
     }
 
+    /// Adds a line that was made for it.
+    pub fn add_line(&mut self, line: String) -> Mem<()> {
+        self.add(line.as_str())
+    }
+
     /// Adds a line that is so deep, two blanks for each.
     pub fn add_deep(&mut self, depth: usize, line: &str) -> Mem<()> {
         for _ in 0..depth {
@@ -47,11 +52,35 @@ impl Lines {
 
     /// Adds a line of a word and of places behind it.
     pub fn add_places(&mut self, word: &str, places: &[Span]) -> Mem<()> {
-        let mut line = String::from_str(self.alloc, word)?;
+        self.text.push_str(word)?;
         for place in places {
-            let piece = format!(in self.alloc; " {}..{}", place.start, place.end)?;
-            line.push_str(piece.as_str())?;
+            self.add_place(place)?;
         }
-        self.add(line.as_str())
+        self.text.push('\n')?;
+        Ok(())
     }
+
+    /// Adds a line of places.
+    pub fn add_all_places(&mut self, places: Vec<Span>) -> Mem<()> {
+        self.add_places("places", places.as_slice())
+    }
+
+    /// Adds a help.
+    pub fn add_help(&mut self, help: Option<String>) -> Mem<()> {
+        match help {
+            Some(help) => self.add_line(help),
+            None => self.add("no help"),
+        }
+    }
+
+    fn add_place(&mut self, place: &Span) -> Mem<()> {
+        let piece = format!(in self.alloc; " {}..{}", place.start, place.end)?;
+        self.text.push_str(piece.as_str())?;
+        Ok(())
+    }
+}
+
+/// A text as a line.
+pub fn line_of(alloc: Global, text: &str) -> Mem<String> {
+    Ok(format!(in alloc; "{text}\n")?)
 }

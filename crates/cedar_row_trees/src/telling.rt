@@ -1,40 +1,50 @@
 // SPDX-License-Identifier: Apache-2.0
-use crate::lines::Lines;
+use crate::lines::{Lines, line_of};
 use crate::schema_pieces::add_schema;
 use cedar_data::{Failure, Mem, NoMemory};
-use cedar_syntax::{ParseErrorKind, ParseErrors, UserError, parse_schema};
+use cedar_syntax::{ParseErrorKind, ParseErrors, Schema, UserError, parse_schema};
 use std::alloc::Global;
 
 /// Whether a text is a schema, or else why it is none, with the place.
 pub fn tell(alloc: Global, input: &str) -> Mem<String> {
-    let mut lines = Lines::new(alloc);
-    lines.add(told(alloc, input)?.as_str())?;
-    Ok(lines.into_text())
+    let told = told(alloc, input)?;
+    line_of(alloc, told.as_str())
 }
 
 /// The pieces of a schema with their places, or else why the text is none.
 pub fn tree(alloc: Global, input: &str) -> Mem<String> {
-    let mut lines = Lines::new(alloc);
     match parse_schema(alloc, input) {
-        Ok(schema) => add_schema(&mut lines, &schema)?,
-        Err(Failure::Refused(errors)) => lines.add(refusal_told(alloc, errors)?.as_str())?,
-        Err(Failure::NoMemory) => return Err(NoMemory),
+        Ok(schema) => pieces_told(alloc, &schema),
+        Err(failure) => refusal_line(alloc, failure),
     }
+}
+
+fn pieces_told(alloc: Global, schema: &Schema) -> Mem<String> {
+    let mut lines = Lines::new(alloc);
+    add_schema(&mut lines, schema)?;
     Ok(lines.into_text())
 }
 
 /// What is said of a text: that it is a schema, or why it is none, with the place.
 pub fn told(alloc: Global, text: &str) -> Mem<String> {
-    match parse_schema(alloc, text) {
-        Ok(_schema) => Ok(String::from_str(alloc, "a schema")?),
-        Err(Failure::Refused(errors)) => refusal_told(alloc, errors),
-        Err(Failure::NoMemory) => Err(NoMemory),
+    match parse_schema(alloc, text).err() {
+        None => Ok(String::from_str(alloc, "a schema")?),
+        Some(failure) => refusal_told(alloc, failure),
     }
 }
 
-/// What is said of the first of some errors.
-pub fn refusal_told(alloc: Global, errors: ParseErrors) -> Mem<String> {
-    kind_told(alloc, &errors.into_inner().head.kind)
+/// What is said of the first of the errors with which a text is refused, as a line.
+pub fn refusal_line(alloc: Global, failure: Failure<ParseErrors>) -> Mem<String> {
+    let told = refusal_told(alloc, failure)?;
+    line_of(alloc, told.as_str())
+}
+
+/// What is said of the first of the errors with which a text is refused.
+fn refusal_told(alloc: Global, failure: Failure<ParseErrors>) -> Mem<String> {
+    match failure {
+        Failure::Refused(errors) => kind_told(alloc, &errors.into_inner().head.kind),
+        Failure::NoMemory => Err(NoMemory),
+    }
 }
 
 /// What is said of an error.

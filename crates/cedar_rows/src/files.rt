@@ -1,10 +1,12 @@
 // SPDX-License-Identifier: Apache-2.0
 use crate::differing::written;
-use crate::faults::RowFault;
-use crate::reading::Reader;
-use crate::row::Row;
+use crate::faults::{BadLine, RowFault};
+use crate::reading::{Reader, Rows};
+use crate::row::{Answer, Row};
 use crate::verbs::answer;
 use anyhow::{Context, Result};
+use cedar_data::Mem;
+use std::alloc::Global;
 use std::{fs, io};
 
 /// How a row ended.
@@ -41,16 +43,31 @@ pub fn all(rt: &HostRuntime) -> io::Result<Vec<String>> {
 /// Runs the rows of a file, and prints how many there are, and how many of them differ where any does, and how many
 /// lines are bad where any is.
 pub fn run(rt: &HostRuntime, name: &str) -> Result<()> {
-    let text = fs::read_to_string(rt, name).context(format_args!("{name}"))?;
-    let reader = read(rt, text.as_str())?;
-    for bad in reader.bad_lines.iter() {
+    let rows = rows_of(rt, name)?;
+    print_bad_lines(rt, name, rows.bad_lines.as_slice())?;
+    let wrong = run_rows(rt, name, rows.sound.as_slice())?;
+    let bad = rows.bad_lines.len().saturating_add(wrong.unknown);
+    print_count(rt, name, rows.sound.len(), wrong.differing, bad)
+}
+
+fn print_bad_lines(rt: &HostRuntime, name: &str, bad_lines: &[BadLine]) -> Result<()> {
+    for bad in bad_lines {
         println!(rt; "{name}:{}: {}", bad.line, bad.fault)?;
     }
-    let wrong = run_rows(rt, name, reader.rows.as_slice())?;
-    let bad = reader.bad_lines.len().saturating_add(wrong.unknown);
-    print!(rt; "{name}: {} rows", reader.rows.len())?;
-    if wrong.differing > 0 {
-        print!(rt; ", {} differ", wrong.differing)?;
+    Ok(())
+}
+
+/// Prints how many rows a file has, and how many of them are wrong.
+fn print_count(
+    rt: &HostRuntime,
+    name: &str,
+    rows: usize,
+    differing: usize,
+    bad: usize,
+) -> Result<()> {
+    print!(rt; "{name}: {rows} rows")?;
+    if differing > 0 {
+        print!(rt; ", {differing} differ")?;
     }
     if bad > 0 {
         print!(rt; ", {bad} bad lines")?;
@@ -59,16 +76,22 @@ pub fn run(rt: &HostRuntime, name: &str) -> Result<()> {
     Ok(())
 }
 
-/// The rows and the bad lines of the text of a file.
-fn read<'a>(rt: &HostRuntime, text: &'a str) -> Result<Reader<'a>> {
-    let mut reader = Reader::new(rt.alloc());
+/// The rows and the bad lines of a file.
+fn rows_of(rt: &HostRuntime, name: &str) -> Result<Rows> {
+    let text = fs::read_to_string(rt, name).context(format_args!("{name}"))?;
+    Ok(read(rt.alloc(), text.as_str())?)
+}
+
+/// The rows and the bad lines of a text.
+fn read(alloc: Global, text: &str) -> Mem<Rows> {
+    let mut reader = Reader::new(alloc);
     let mut number = 0usize;
     for line in text.lines() {
         number = number.saturating_add(1);
-        reader.read(rt.alloc(), number, line)?;
+        reader.read(alloc, number, line)?;
     }
     reader.end_head()?;
-    Ok(reader)
+    Ok(reader.into_rows())
 }
 
 /// Runs rows, and tells how many of them are wrong.
@@ -89,20 +112,28 @@ fn run_rows(rt: &HostRuntime, name: &str, rows: &[Row]) -> Result<Wrong> {
 
 /// Runs a row, and prints where its answer differs, or that its verb is unknown.
 fn run_row(rt: &HostRuntime, name: &str, row: &Row) -> Result<Outcome> {
-    let alloc = rt.alloc();
-    let wanted = row.wanted(alloc)?;
-    let Some(given) = answer(alloc, row)? else {
-        println!(rt; "{name}:{}: {}", row.line, RowFault::UnknownVerb)?;
-        return Ok(Outcome::Unknown);
-    };
-    if given == wanted {
-        return Ok(Outcome::Right);
+    let wanted = row.wanted(rt.alloc())?;
+    match answer(rt.alloc(), row)? {
+        Some(given) if given == wanted => Ok(Outcome::Right),
+        Some(given) => print_difference(rt, name, row.line, &wanted, &given),
+        None => print_unknown(rt, name, row.line),
     }
-    let wanted = written(alloc, &wanted)?;
-    let given = written(alloc, &given)?;
-    print!(rt;
-        "{name}:{}: differs\nwanted\n{wanted}given\n{given}",
-        row.line
-    )?;
+}
+
+fn print_unknown(rt: &HostRuntime, name: &str, line: usize) -> Result<Outcome> {
+    println!(rt; "{name}:{line}: {}", RowFault::UnknownVerb)?;
+    Ok(Outcome::Unknown)
+}
+
+fn print_difference(
+    rt: &HostRuntime,
+    name: &str,
+    line: usize,
+    wanted: &Answer,
+    given: &Answer,
+) -> Result<Outcome> {
+    let wanted = written(rt.alloc(), wanted)?;
+    let given = written(rt.alloc(), given)?;
+    print!(rt; "{name}:{line}: differs\nwanted\n{wanted}given\n{given}")?;
     Ok(Outcome::Differs)
 }

@@ -19,9 +19,15 @@ struct Head<'a> {
 pub struct Reader<'a> {
     head: Option<Head<'a>>,
     open: Option<Row>,
-    /// The rows so far, without those that have a bad line.
-    pub rows: Vec<Row>,
-    /// The bad lines so far.
+    rows: Vec<Row>,
+    bad_lines: Vec<BadLine>,
+}
+
+/// What a file has.
+#[derive(Drop)]
+pub struct Rows {
+    /// The rows, without those that have a bad line.
+    pub sound: Vec<Row>,
     pub bad_lines: Vec<BadLine>,
 }
 
@@ -33,6 +39,14 @@ impl<'a> Reader<'a> {
             open: None,
             rows: Vec::new(alloc),
             bad_lines: Vec::new(alloc),
+        }
+    }
+
+    /// What was read.
+    pub fn into_rows(self) -> Rows {
+        Rows {
+            sound: self.rows,
+            bad_lines: self.bad_lines,
         }
     }
 
@@ -61,40 +75,52 @@ impl<'a> Reader<'a> {
 
     /// Reads a line of a row, which it may begin.
     fn read_row(&mut self, alloc: Global, number: usize, line: Line<'_>) -> Mem<()> {
-        let mut row = match self.open.take() {
-            Some(row) => row,
-            None => self.begin_row(alloc, number)?,
-        };
-        if let Err(fault) = row.add(alloc, line) {
-            row.is_sound = false;
-            self.add_fault(number, fault)?;
+        if self.open.is_none() {
+            self.begin_row(alloc, number)?;
         }
-        self.open = Some(row);
-        Ok(())
+        let fault = match &mut self.open {
+            Some(row) => row.add(alloc, line),
+            None => None,
+        };
+        match fault {
+            Some(fault) => self.add_fault(number, fault),
+            None => Ok(()),
+        }
     }
 
-    /// A row that begins with this line.
-    fn begin_row(&mut self, alloc: Global, number: usize) -> Mem<Row> {
+    /// Begins a row with this line.
+    fn begin_row(&mut self, alloc: Global, number: usize) -> Mem<()> {
         match &mut self.head {
             Some(head) => {
                 head.has_rows = true;
-                Row::new(alloc, number, head.verb, head.words)
+                self.open = Some(Row::new(alloc, number, head.verb, head.words)?);
+                Ok(())
             }
-            None => {
-                let mut row = Row::new(alloc, number, "", "")?;
-                row.is_sound = false;
-                self.add_fault(number, RowFault::NoVerb)?;
-                Ok(row)
-            }
+            None => self.begin_headless(alloc, number),
         }
     }
 
+    /// Begins a row that no verb stands above.
+    fn begin_headless(&mut self, alloc: Global, number: usize) -> Mem<()> {
+        self.add_fault(number, RowFault::NoVerb)?;
+        self.open = Some(Row::unsound(alloc, number)?);
+        Ok(())
+    }
+
+    /// Ends the last row, and keeps it if it is sound.
     fn end_row(&mut self) -> Mem<()> {
-        if let Some(mut row) = self.open.take() {
+        if let Some(row) = &mut self.open {
             row.close()?;
-            if row.is_sound {
-                self.rows.push(row)?;
-            }
+        }
+        match self.open.take() {
+            Some(row) => self.keep(row),
+            None => Ok(()),
+        }
+    }
+
+    fn keep(&mut self, row: Row) -> Mem<()> {
+        if row.is_sound {
+            self.rows.push(row)?;
         }
         Ok(())
     }

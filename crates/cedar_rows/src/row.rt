@@ -34,6 +34,16 @@ pub struct Answer {
     pub err: Vec<u8>,
 }
 
+impl Answer {
+    /// The answer of these bytes.
+    pub fn new(alloc: Global, end: &str, out: &[u8], err: &[u8]) -> Mem<Answer> {
+        let end = String::from_str(alloc, end)?;
+        let out = Vec::from_slice(alloc, out)?;
+        let err = Vec::from_slice(alloc, err)?;
+        Ok(Answer { end, out, err })
+    }
+}
+
 impl Row {
     /// A row with no lines yet.
     pub fn new(alloc: Global, line: usize, verb: &str, words: &str) -> Mem<Row> {
@@ -51,8 +61,25 @@ impl Row {
         })
     }
 
-    /// Adds a line of the row.
-    pub fn add(&mut self, alloc: Global, line: Line<'_>) -> Result<(), RowFault> {
+    /// A row that can't be run, since no verb stands above it.
+    pub fn unsound(alloc: Global, line: usize) -> Mem<Row> {
+        let mut row = Row::new(alloc, line, "", "")?;
+        row.is_sound = false;
+        Ok(row)
+    }
+
+    /// Adds a line of the row. Where that can't be read, the row isn't sound, and the fault is told.
+    pub fn add(&mut self, alloc: Global, line: Line<'_>) -> Option<RowFault> {
+        match self.add_sound(alloc, line) {
+            Ok(()) => None,
+            Err(fault) => {
+                self.is_sound = false;
+                Some(fault)
+            }
+        }
+    }
+
+    fn add_sound(&mut self, alloc: Global, line: Line<'_>) -> Result<(), RowFault> {
         self.is_answered |= matches!(&line, Line::Out(_) | Line::Err(_) | Line::End(_));
         match line {
             Line::Input(_) if self.is_answered => Err(RowFault::LateInput),
@@ -83,10 +110,6 @@ impl Row {
             Some(end) => end.as_str(),
             None => usual,
         };
-        Ok(Answer {
-            end: String::from_str(alloc, end)?,
-            out: Vec::from_slice(alloc, self.out.bytes())?,
-            err: Vec::from_slice(alloc, self.err.bytes())?,
-        })
+        Answer::new(alloc, end, self.out.bytes(), self.err.bytes())
     }
 }

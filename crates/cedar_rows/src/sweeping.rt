@@ -5,26 +5,49 @@ use crate::running::run_line;
 use cedar_data::Mem;
 use std::alloc::Global;
 
+/// Which calls fail in turn: of this stream, so many, each in a run of its own with these words.
+#[derive(Clone, Copy)]
+struct Sweep<'a> {
+    stream: &'a str,
+    count: u64,
+    line: &'a str,
+}
+
+/// The sweep that words ask for.
+fn sweep_of(words: &str) -> Sweep<'_> {
+    let (stream, rest) = words.split_once(' ').unwrap_or(("", ""));
+    let (count, line) = rest.split_once(' ').unwrap_or((rest, ""));
+    Sweep {
+        stream,
+        count: decimal(count).unwrap_or(0),
+        line,
+    }
+}
+
 /// What the program answers where one call of a stream fails, for each of its first calls: a line for all calls in a row
 /// that end alike.
 pub fn answer(alloc: Global, row: &Row) -> Mem<Answer> {
-    let (stream, rest) = row.words.as_str().split_once(' ').unwrap_or(("", ""));
-    let (count, line) = rest.split_once(' ').unwrap_or((rest, ""));
-    let count = decimal(count).unwrap_or(0);
-    let whole = run_line(alloc, line, row.input.bytes(), &row.streams)?;
+    let sweep = sweep_of(row.words.as_str());
+    let whole = run_line(alloc, sweep.line, row.input.bytes(), &row.streams)?;
+    let lines = swept(alloc, row, sweep, &whole)?;
+    Answer::new(alloc, whole.end.as_str(), lines.as_bytes(), b"")
+}
+
+fn swept(alloc: Global, row: &Row, sweep: Sweep<'_>, whole: &Answer) -> Mem<String> {
     let mut ends = Ends::new(alloc);
-    for call in 1..count.saturating_add(1) {
-        let streams = row.streams.failing(alloc, stream, call)?;
-        let cut = run_line(alloc, line, row.input.bytes(), &streams)?;
-        let before = moved_before(call, streams.most);
-        ends.add(alloc, call, said(alloc, &cut, &whole, before)?)?;
+    for call in 1..sweep.count.saturating_add(1) {
+        let said = said_of(alloc, row, sweep, call, whole)?;
+        ends.add(alloc, call, said)?;
     }
     ends.flush(alloc)?;
-    Ok(Answer {
-        end: whole.end,
-        out: ends.lines.into_bytes(),
-        err: Vec::new(alloc),
-    })
+    Ok(ends.lines)
+}
+
+/// What is said of the run in which just this call fails.
+fn said_of(alloc: Global, row: &Row, sweep: Sweep<'_>, call: u64, whole: &Answer) -> Mem<String> {
+    let streams = row.streams.failing(alloc, sweep.stream, call)?;
+    let cut = run_line(alloc, sweep.line, row.input.bytes(), &streams)?;
+    said(alloc, &cut, whole, moved_before(call, streams.most))
 }
 
 /// How many bytes the calls before this one move, each as many as it may.

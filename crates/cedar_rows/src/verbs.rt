@@ -1,47 +1,50 @@
 // SPDX-License-Identifier: Apache-2.0
 use crate::row::{Answer, Row};
-use crate::{running, schemas, sweeping};
+use crate::{running, sweeping};
 use cedar_data::Mem;
 use std::alloc::Global;
 use std::str;
 
 /// What a row answers; none where its verb is unknown.
 pub fn answer(alloc: Global, row: &Row) -> Mem<Option<Answer>> {
-    let answer = match row.verb.as_str() {
-        "run" => running::answer(alloc, row)?,
-        "sweep" => sweeping::answer(alloc, row)?,
-        _ => return answer_in_text(alloc, row),
-    };
-    Ok(Some(answer))
+    match row.verb.as_str() {
+        "run" => Ok(Some(running::answer(alloc, row)?)),
+        "sweep" => Ok(Some(sweeping::answer(alloc, row)?)),
+        _ => answer_in_text(alloc, row),
+    }
 }
 
 /// The answer of a verb on texts, which is written as the first sink.
 fn answer_in_text(alloc: Global, row: &Row) -> Mem<Option<Answer>> {
-    let Ok(input) = str::from_utf8(row.input.bytes()) else {
-        return Ok(Some(said(alloc, "NotUtf8", String::new(alloc))?));
-    };
+    match str::from_utf8(row.input.bytes()) {
+        Ok(input) => lines_answered(alloc, row, input),
+        Err(_) => Ok(Some(Answer::new(alloc, "NotUtf8", b"", b"")?)),
+    }
+}
+
+fn lines_answered(alloc: Global, row: &Row, input: &str) -> Mem<Option<Answer>> {
     let words: Vec<&str> = row.words.as_str().split_whitespace().collect(alloc)?;
     match lines_of(alloc, row.verb.as_str(), words.as_slice(), input)? {
-        Some(lines) => Ok(Some(said(alloc, "Done", lines)?)),
+        Some(lines) => Ok(Some(Answer::new(alloc, "Done", lines.as_bytes(), b"")?)),
         None => Ok(None),
     }
 }
 
-/// What a verb on texts says, a line each.
-fn lines_of(alloc: Global, verb: &str, words: &[&str], input: &str) -> Mem<Option<String>> {
-    if let Some(lines) = cedar_row_trees::answer(alloc, verb, words, input)? {
-        return Ok(Some(lines));
-    }
-    if let Some(lines) = schemas::answer(alloc, verb, input)? {
-        return Ok(Some(lines));
-    }
-    cedar_row_verbs::answer(alloc, verb, words, input)
+/// Lines, where a crate of verbs knows the verb.
+type Lines = Mem<Option<String>>;
+
+/// What a verb on texts says, a line each. Each crate of verbs is asked, and one at most knows the verb.
+fn lines_of(alloc: Global, verb: &str, words: &[&str], input: &str) -> Lines {
+    let lines = cedar_row_trees::answer(alloc, verb, words, input);
+    let lines = either(lines, cedar_row_calls::answer(alloc, verb, words, input));
+    let lines = either(lines, cedar_row_schemas::answer(alloc, verb, words, input));
+    either(lines, cedar_row_verbs::answer(alloc, verb, words, input))
 }
 
-fn said(alloc: Global, end: &str, out: String) -> Mem<Answer> {
-    Ok(Answer {
-        end: String::from_str(alloc, end)?,
-        out: out.into_bytes(),
-        err: Vec::new(alloc),
-    })
+/// The first answer where there is one, or else the second.
+fn either(first: Lines, second: Lines) -> Lines {
+    match first {
+        Ok(None) => second,
+        lines => lines,
+    }
 }

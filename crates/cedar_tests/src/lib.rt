@@ -1,15 +1,17 @@
 // SPDX-License-Identifier: Apache-2.0
-//! Tests of what rows of text can't say of schemas: copies with their places, equality of values, errors
-//! compared as values. All else stands as rows in `cedar_rows`, and as tests of trees in `cedar_tree_tests`.
+//! Tests of trees, of errors of the syntax, of plain types and of schemas: what is built by calls, so that no row can say
+//! it. All else stands as rows in `cedar_rows`.
 #![tactic(auto)]
 
 #[cfg(test)]
-mod fixtures;
+mod holding;
+#[cfg(test)]
+mod lists_of_errors;
+#[cfg(test)]
+mod making;
+#[cfg(test)]
+mod nodes;
 #[cfg(test)]
 mod plain;
 #[cfg(test)]
-mod refusals;
-#[cfg(test)]
-mod schemas;
-#[cfg(test)]
-mod types;
+mod trees;

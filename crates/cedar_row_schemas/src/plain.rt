@@ -2,32 +2,33 @@
 use cedar_data::{Failure, Items, Mem, NoMemory, Text};
 use cedar_names::Id;
 use cedar_plain::{PlainDecl, PlainType, plain_declarations};
-use cedar_row_trees::Lines;
+use cedar_row_trees::{Lines, line_of};
 use cedar_syntax::{Schema, parse_schema};
 use std::alloc::Global;
 
 /// The plain declarations of a text, or what it is where it has none.
-pub fn declarations(alloc: Global, input: &str) -> Mem<String> {
-    let mut lines = Lines::new(alloc);
+pub fn plain(alloc: Global, input: &str) -> Mem<String> {
     match parse_schema(alloc, input) {
-        Ok(schema) => add_schema(&mut lines, &schema)?,
-        Err(Failure::Refused(_errors)) => lines.add("no schema")?,
-        Err(Failure::NoMemory) => return Err(NoMemory),
-    }
-    Ok(lines.into_text())
-}
-
-fn add_schema(lines: &mut Lines, schema: &Schema) -> Mem<()> {
-    match plain_declarations(lines.alloc, schema) {
-        Ok(decls) => {
-            for decl in decls.iter() {
-                add_declaration(lines, decl)?;
-            }
-            Ok(())
-        }
-        Err(Failure::Refused(_errors)) => lines.add("not plain"),
+        Ok(schema) => schema_told(alloc, &schema),
+        Err(Failure::Refused(_errors)) => line_of(alloc, "no schema"),
         Err(Failure::NoMemory) => Err(NoMemory),
     }
+}
+
+fn schema_told(alloc: Global, schema: &Schema) -> Mem<String> {
+    match plain_declarations(alloc, schema) {
+        Ok(decls) => declarations_told(alloc, decls.as_slice()),
+        Err(Failure::Refused(_errors)) => line_of(alloc, "not plain"),
+        Err(Failure::NoMemory) => Err(NoMemory),
+    }
+}
+
+fn declarations_told(alloc: Global, decls: &[PlainDecl]) -> Mem<String> {
+    let mut lines = Lines::new(alloc);
+    for decl in decls {
+        add_declaration(&mut lines, decl)?;
+    }
+    Ok(lines.into_text())
 }
 
 fn add_declaration(lines: &mut Lines, decl: &PlainDecl) -> Mem<()> {

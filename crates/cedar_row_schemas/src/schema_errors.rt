@@ -1,0 +1,29 @@
+// SPDX-License-Identifier: Apache-2.0
+use cedar_data::{Failure, Mem, NoMemory, Out};
+use cedar_names::Extensions;
+use cedar_row_trees::{Lines, line_of};
+use cedar_validator::{CedarSchemaError, ValidatorSchema};
+use std::alloc::Global;
+
+/// What the calls of the error say with which a text is refused.
+pub fn schema_error(alloc: Global, input: &str) -> Mem<String> {
+    match schema_of(alloc, input).err() {
+        None => line_of(alloc, "a schema"),
+        Some(Failure::Refused(error)) => error_told(alloc, &error),
+        Some(Failure::NoMemory) => Err(NoMemory),
+    }
+}
+
+/// The schema of a text, where all extension types are available.
+pub fn schema_of(alloc: Global, input: &str) -> Out<ValidatorSchema, CedarSchemaError> {
+    let extensions = Extensions::all_available(alloc)?;
+    ValidatorSchema::from_cedarschema_str(alloc, input, &extensions)
+}
+
+fn error_told(alloc: Global, error: &CedarSchemaError) -> Mem<String> {
+    let mut lines = Lines::new(alloc);
+    lines.add_line(error.to_string(alloc)?)?;
+    lines.add_help(error.help(alloc)?)?;
+    lines.add_all_places(error.spans(alloc)?)?;
+    Ok(lines.into_text())
+}
