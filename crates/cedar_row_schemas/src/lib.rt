@@ -2,13 +2,13 @@
 //! Verbs of rows on schemas and on plain declarations.
 #![tactic(auto)]
 
-mod plain;
-mod schema_copies;
+mod copied_schemas;
+mod plain_lines;
 mod schema_errors;
 
 use cedar_data::Mem;
-pub use plain::plain;
-pub use schema_copies::schema_copies;
+pub use copied_schemas::schema_copies;
+pub use plain_lines::plain;
 pub use schema_errors::schema_error;
 use std::alloc::Global;
 

@@ -1,8 +1,9 @@
 // SPDX-License-Identifier: Apache-2.0
 use crate::holding::{all_hold, are_equal, is_copied, is_written};
-use crate::making::{FIRST, SECOND, errors_of, extra, repeated, stray};
+use crate::making::{FIRST, SECOND, errors_of, extra, repeated, stray, text};
+use cedar_data::Mem;
 use cedar_names::Span;
-use cedar_syntax::{ParseError, ParseErrorKind, ParseErrors};
+use cedar_syntax::{ParseError, ParseErrors};
 use std::alloc::Global;
 use std::test::Fail;
 
@@ -46,9 +47,13 @@ fn are_in_order(places: Option<Vec<Span>>) -> bool {
 
 /// Whether there are two errors, at these places in turn.
 fn are_iterated(made: Option<ParseErrors>) -> bool {
-    let Some(errors) = made else {
-        return false;
-    };
+    match made {
+        Some(errors) => are_in_turn(&errors),
+        None => false,
+    }
+}
+
+fn are_in_turn(errors: &ParseErrors) -> bool {
     let mut count = 0u32;
     let mut is_right = true;
     for (error, span) in errors.iter().zip([FIRST, SECOND]) {
@@ -71,56 +76,82 @@ fn keep_their_order(rt: HostRuntime) -> Result<(), Fail> {
     ])
 }
 
-/// Whether there is a first error, this one, and so many others.
-fn is_apart(made: Option<ParseErrors>, first: Option<ParseError>, others: usize) -> bool {
-    let (Some(errors), Some(first)) = (made, first) else {
-        return false;
-    };
-    let list = errors.into_inner();
-    list.head == first && list.tail.len() == others
+/// The first of errors that are taken apart.
+fn first_of(made: Option<ParseErrors>) -> Option<ParseError> {
+    match made {
+        Some(errors) => Some(errors.into_inner().head),
+        None => None,
+    }
+}
+
+/// How many errors stand behind the first.
+fn others(made: Option<ParseErrors>) -> Option<usize> {
+    match made {
+        Some(errors) => Some(errors.into_inner().tail.len()),
+        None => None,
+    }
 }
 
 /// Whether there is no help.
 fn has_no_help(alloc: Global, made: Option<ParseErrors>) -> bool {
     match made {
-        Some(errors) => matches!(errors.help(alloc), Ok(None)),
+        Some(errors) => is_nothing(errors.help(alloc)),
         None => false,
     }
+}
+
+fn is_nothing(help: Mem<Option<String>>) -> bool {
+    matches!(&help, Ok(None))
+}
+
+/// Whether no errors are made of none.
+fn are_none(alloc: Global) -> bool {
+    ParseErrors::from_iter(Vec::new(alloc)).is_none()
 }
 
 #[test]
 fn are_taken_apart_and_put_together(rt: HostRuntime) -> Result<(), Fail> {
     let alloc = rt.alloc();
-    let none = ParseErrors::from_iter(Vec::new(alloc)).is_none();
-    let are_same = are_equal(first_and_others(alloc), two_errors(alloc));
-    let first = stray(alloc, FIRST, "{");
-    let told = is_written(alloc, two_errors(alloc), "unexpected token `{`");
+    let same = Some(true);
     all_hold(&[
-        ("they are put together", none && are_same == Some(true)),
         (
-            "they are taken apart",
-            is_apart(two_errors(alloc), first, 1),
+            "they are put together",
+            are_equal(first_and_others(alloc), two_errors(alloc)) == same,
         ),
+        ("none are made of none", are_none(alloc)),
+        (
+            "the first is taken",
+            are_equal(first_of(two_errors(alloc)), stray(alloc, FIRST, "{")) == same,
+        ),
+        ("one is left", others(two_errors(alloc)) == Some(1)),
         ("they have no help", has_no_help(alloc, two_errors(alloc))),
-        ("they are told by their first", told),
+        (
+            "they are told by their first",
+            is_written(alloc, two_errors(alloc), "unexpected token `{`"),
+        ),
     ])
 }
 
-/// Whether these are the errors of this kind in this text alone.
-fn is_only(made: Option<ParseErrors>, kind: Option<ParseErrorKind>, text: &str) -> bool {
-    let (Some(errors), Some(kind)) = (made, kind) else {
-        return false;
-    };
-    let list = errors.into_inner();
-    list.head.kind == kind && list.head.src.as_str() == text && list.tail.is_empty()
+/// The error that the key `a` stands twice.
+fn repeated_error(alloc: Global) -> Option<ParseError> {
+    let src = text(alloc, "@a @a")?;
+    let kind = repeated(alloc)?;
+    Some(ParseError { kind, src })
 }
 
 #[test]
 fn of_a_text(rt: HostRuntime) -> Result<(), Fail> {
     let alloc = rt.alloc();
-    let errors = errors_of(alloc, "@a @a");
+    let first = first_of(errors_of(alloc, "@a @a"));
     all_hold(&[
-        ("a repeated key", is_only(errors, repeated(alloc), "@a @a")),
+        (
+            "a repeated key",
+            are_equal(first, repeated_error(alloc)) == Some(true),
+        ),
+        (
+            "no other error",
+            others(errors_of(alloc, "@a @a")) == Some(0),
+        ),
         ("a token too many is copied", is_copied(alloc, extra(alloc))),
     ])
 }
