@@ -80,7 +80,11 @@ fn is_common<N: RefName>(
     ensures { IfOk result (λ is_common. is_common ≡ has_common definition.now id.now) }
 {
     let id = id.dup(alloc)?;
-    Ok(definition.common_types.contains_key(&CommonTypeId::unchecked(id)))
+    Ok(
+        definition
+            .common_types
+            .contains_key(&CommonTypeId::unchecked(id)),
+    )
 }
 
 /// The name of an identifier in a namespace.
