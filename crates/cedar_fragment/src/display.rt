@@ -52,10 +52,7 @@ impl<N: fmt::Display> fmt::Display for StandardEntityType<N> {
 }
 
 /// Writes the ids of the entities of an enumerated type.
-fn write_choices<W: fmt::Write>(
-    choices: &NonEmpty<Text>,
-    f: &mut fmt::Formatter<W>,
-) -> fmt::Result
+fn write_choices<W: fmt::Write>(choices: &NonEmpty<Text>, f: &mut fmt::Formatter<W>) -> fmt::Result
     ensures { DisplaysOnOk W.write_str_gives f.old result (text_of nameless (print_choices choices.now)) f.new }
 {
     write!(f, " enum ")?;

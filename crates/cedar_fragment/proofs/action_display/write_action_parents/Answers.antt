@@ -9,4 +9,4 @@ use Rattle.cedar_fragment.proofs.action_display.write_action_parents.Goals as go
 pub returns-in-Some : goal.returns-in-Some
 returns-in-Some g c =
     subst (λ us. Shows g.W.Write.write_str_gives g.N.Display.output c.args.f.now c.write_parents.result (print_action_parents us) c.write_parents.new.f) (sym c.in-Some.is)
-        (displays_on_ok_of_eq g.W.Write.write_str_gives c.args.f.now c.write_parents.new.f c.write_parents.result _ _ (parents-shown g.N.Display.output print_uid c.in-Some.parents) c.write_parents.ensures)
+    (displays_on_ok_of_eq g.W.Write.write_str_gives c.args.f.now c.write_parents.new.f c.write_parents.result _ _ (parents-shown g.N.Display.output print_uid c.in-Some.parents) c.write_parents.ensures)
