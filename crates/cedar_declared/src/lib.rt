@@ -5,11 +5,13 @@
 mod all_defs;
 mod fully_qualify;
 mod gathered;
+mod laws;
 mod resolve;
 mod resolving;
 mod type_names;
 
 pub use all_defs::AllDefs;
 pub use fully_qualify::FullyQualify;
+pub use laws::what_is_found_is_the_target;
 pub use resolve::ResolveName;
 pub use resolving::Resolving;
