@@ -6,8 +6,7 @@ ghost use Rattle.cedar_names.specs.Names.{entity_cmp};
 ghost use Rattle.cedar_definitions.specs.Structures.{definitions_of};
 
 use crate::structures::{
-    ActionsDef, EntityTypesDef, ValidatorApplySpec, ValidatorNamespaceDef,
-    ValidatorSchemaFragment,
+    ActionsDef, EntityTypesDef, ValidatorApplySpec, ValidatorNamespaceDef, ValidatorSchemaFragment,
 };
 use cedar_data::{Items, Map, Set, SetIter};
 use cedar_names::{EntityType, InternalName};
@@ -16,9 +15,7 @@ use std::alloc::Global;
 
 impl<N: RefName + Ord, A: Ord> ValidatorSchemaFragment<N, A> {
     /// These definitions, as they are given. It takes no memory.
-    pub fn from_namespaces(
-        list: Vec<ValidatorNamespaceDef<N, A>>,
-    ) -> ValidatorSchemaFragment<N, A>
+    pub fn from_namespaces(list: Vec<ValidatorNamespaceDef<N, A>>) -> ValidatorSchemaFragment<N, A>
         ensures { definitions_of result ≡ list.items }
     {
         ValidatorSchemaFragment(Items::from_vec(list))

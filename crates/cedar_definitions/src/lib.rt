@@ -3,6 +3,7 @@
 #![tactic(auto)]
 
 mod calls;
+mod common_defs;
 mod copies;
 mod structures;
 

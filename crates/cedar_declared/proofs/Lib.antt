@@ -1,0 +1,5 @@
+-- SPDX-License-Identifier: Apache-2.0
+pub mod FoundTargets
+pub mod Gains
+pub mod Looked
+pub mod Targeted

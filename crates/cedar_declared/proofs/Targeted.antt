@@ -1,0 +1,91 @@
+-- SPDX-License-Identifier: Apache-2.0
+-- What comes of a reference, by whether it may stand for a declared name.
+use Rattle.std.proofs.Common.{◌≡◌, ◌||◌, ℕ, List, IsTrue, not, map, Bool, true, false, [], ◌∷◌, Option, Some, None, refl, sym, ap, ◌∙◌, is_some, subst, unwrap_or, MatchResult, MatchOption}
+use Rattle.std.specs.List.{find}
+use Rattle.std.specs.BTreeMap.{is_at}
+use Rattle.std.specs.Ordering.{is_eq, ordering_then}
+use Rattle.std.specs.declared.cmp.Ordering.{Ordering}
+use Rattle.std.specs.declared.cmp.Ordering.TheVariants.{Less, Equal, Greater}
+use Rattle.cedar_data.specs.Sets.{contains}
+use Rattle.cedar_names.proofs.NameOrder.{words_cmp-equal}
+use Rattle.cedar_names.specs.EntityUids.{eid_of, eid_text, entity_type_of}
+use Rattle.cedar_names.specs.Names.{entity_words, name_of}
+use Rattle.cedar_names.specs.Order.{word_cmp, words_cmp}
+use Rattle.cedar_names.specs.declared.entity_uid.EntityUID.{EntityUID}
+use Rattle.cedar_schema_error.specs.FullNames.{FullName, uid_cmp, uid_in}
+use Rattle.std.specs.Result.{result_err}
+use Rattle.cedar_written.specs.Reference.{named}
+use Rattle.cedar_schema_error.specs.declared.schema_error.SchemaError.TheVariants.{TypeNotDefined}
+use Rattle.cedar_declared.specs.Held.{names_of}
+use Rattle.cedar_declared.specs.declared.all_defs.AllDefs.{AllDefs}
+use Rattle.std.specs.declared.result.Result.TheVariants.{Ok, Err}
+use Rattle.cedar_names.specs.Components.{components, has_cedar}
+use Rattle.cedar_names.specs.declared.internal_name.InternalName.{InternalName}
+use Rattle.cedar_text.specs.Lists.{elements}
+use Rattle.cedar_text.specs.declared.non_empty.NonEmpty.{NonEmpty}
+use Rattle.cedar_written.specs.Possibilities.{kind_of, leading, possibilities_of}
+use Rattle.cedar_written.specs.declared.conditional_name.ConditionalName.{ConditionalName}
+use Rattle.cedar_written.specs.declared.reference_type.ReferenceType.{ReferenceType}
+use Rattle.cedar_schema_error.specs.declared.name_errors.TypeNotDefinedError.{TypeNotDefinedError}
+use Rattle.cedar_declared.specs.Names.{Names, is_action, is_declared}
+use Rattle.cedar_declared.specs.Targets.{action_at, found, or_refused, resolved, resolving}
+
+module _ (names : Names) (n : ConditionalName) where
+  -- it becomes the one that was found
+  pub resolved_to : (kind : ReferenceType) (ps : NonEmpty InternalName) (r : InternalName) → kind ≡ kind_of n → ps ≡ possibilities_of n → find (λ p. is_declared names kind (components p)) (elements ps) ≡ Some r → Ok r ≡ resolved names n
+  resolved_to kind ps r k p is =
+      sym (ap (or_refused (record { undefined_types = leading n [] })) ((λ i. find (λ q. is_declared names (sym k i) (components q)) (elements (sym p i))) ∙ is))
+
+  -- one was found among these
+  pub some_found : (kind : ReferenceType) (ps : NonEmpty InternalName) (b : Bool) → kind ≡ kind_of n → ps ≡ possibilities_of n → b ≡ is_some (found names n) → b ≡ true → is_some (find (λ p. is_declared names kind (components p)) (elements ps)) ≡ true
+  some_found kind ps b k p is yes-found = (λ i. is_some (find (λ q. is_declared names (k i) (components q)) (elements (p i)))) ∙ sym is ∙ yes-found
+
+  none_by : (o : Option InternalName) → is_some o ≡ false → (e : TypeNotDefinedError) → Err e ≡ or_refused e o
+  none_by None is e = refl
+  none_by (Some r) is e = absurd (cc)
+
+  -- none was found
+  pub refused_as : (e : TypeNotDefinedError) (b : Bool) → e ≡ record { undefined_types = leading n [] } → b ≡ is_some (found names n) → b ≡ false → Err e ≡ resolved names n
+  refused_as e b same is none = ap Err same ∙ none_by (found names n) (sym is ∙ none) (record { undefined_types = leading n [] })
+
+-- a refused reference is refused by the step
+pub refused_step : (names : Names) (k : ReferenceType) (n : ConditionalName) (e : TypeNotDefinedError) → Err e ≡ resolved names n → resolving names (named k n) ≡ Err (TypeNotDefined e)
+refused_step names k n e is = by (found names n) is
+  where
+    by : (o : Option InternalName) → Err e ≡ or_refused (record { undefined_types = leading n [] }) o → or_refused (TypeNotDefined (record { undefined_types = leading n [] })) o ≡ Err (TypeNotDefined e)
+    by None is = ap (λ x. Err (TypeNotDefined x)) (sym (ap (λ r. unwrap_or (result_err r) e) is))
+    by (Some r) is = absurd (subst (λ r. MatchResult r (λ v. ⊥) (λ v. Unit {0})) is tt)
+
+-- no action is of a type with `__cedar`
+unreserved : (u : EntityUID) → has_cedar (entity_words (entity_type_of u)) ≡ false
+unreserved u = not_true (has_cedar (entity_words (entity_type_of u))) (name_of (entity_type_of u)).unreserved
+  where
+    not_true : (b : Bool) → IsTrue (not b) → b ≡ false
+    not_true true e = let p : false ≡ true = e in absurd (cc)
+    not_true false e = refl
+
+no_action : (ty : FullName) (id : List ℕ) → has_cedar ty ≡ true → (us : List EntityUID) → contains uid_cmp (map uid_in us) (record { ty = ty; id = id }) ≡ false
+no_action ty id reserved [] = refl
+no_action ty id reserved (u ∷ us) = either_off _ _ (apart (is_at (uid_cmp (record { ty = ty; id = id })) (uid_in u)) refl) (no_action ty id reserved us)
+  where
+    either_off : (a b : Bool) → a ≡ false → b ≡ false → (a || b) ≡ false
+    either_off a b p q = ap (λ a. a || b) p ∙ q
+
+    first_equal : (a b : Ordering) → is_eq (ordering_then a b) ≡ true → a ≡ Equal
+    first_equal Equal b e = refl
+    first_equal Less b e = let p : false ≡ true = e in absurd (cc)
+    first_equal Greater b e = let p : false ≡ true = e in absurd (cc)
+
+    apart : (b : Bool) → is_at (uid_cmp (record { ty = ty; id = id })) (uid_in u) ≡ b → b ≡ false
+    apart false e = refl
+    apart true e =
+        let same : ty ≡ entity_words (entity_type_of u) = (words_cmp-equal ty (entity_words (entity_type_of u))).0 (first_equal (words_cmp ty (entity_words (entity_type_of u))) (word_cmp id (eid_text (eid_of u))) e) in
+        let p : has_cedar (entity_words (entity_type_of u)) ≡ true = sym (ap has_cedar same) ∙ reserved in
+        let q : has_cedar (entity_words (entity_type_of u)) ≡ false = unreserved u in
+        absurd (cc)
+
+-- so it is not declared
+pub reserved_undeclared : (d : AllDefs) (id : List ℕ) (ty : InternalName) (o : Option EntityUID) → MatchOption o (has_cedar (components ty) ≡ true) (λ u. uid_in u ≡ action_at id ty) → o ≡ None → false ≡ is_action (names_of d) (action_at id ty)
+reserved_undeclared d id ty o is none = sym (no_action (components ty) id (subst (λ o. MatchOption o (has_cedar (components ty) ≡ true) (λ u. uid_in u ≡ action_at id ty)) none is) d.actions)
+
+pub ruleset targeted = (resolved_to, some_found, refused_as)

@@ -1,0 +1,6 @@
+-- SPDX-License-Identifier: Apache-2.0
+pub mod Gathering
+pub mod Held
+pub mod Names
+pub mod Targets
+pub mod TypeNames

@@ -1,0 +1,34 @@
+-- SPDX-License-Identifier: Apache-2.0
+-- Names of types that grow by one.
+use Rattle.std.specs.Prelude.{◌≡◌, ◌||◌, cond, List, [], ◌∷◌}
+use Rattle.std.specs.BTreeMap.{insert_entry, is_at}
+use Rattle.std.specs.BTreeSet.{insert_key}
+use Rattle.std.specs.declared.cmp.Ordering.{Ordering}
+use Rattle.cedar_data.specs.Sets.{contains}
+use Rattle.cedar_names.specs.Components.{basename_of, components, loc_of, namespace_of}
+use Rattle.cedar_names.specs.Identifiers.{id_word}
+use Rattle.cedar_names.specs.Names.{internal_cmp}
+use Rattle.cedar_names.specs.Order.{word_cmp, words_cmp}
+use Rattle.cedar_names.specs.declared.id.Id.{Id}
+use Rattle.cedar_names.specs.declared.internal_name.InternalName.{InternalName}
+use Rattle.cedar_schema_error.specs.FullNames.{FullName}
+use Rattle.cedar_declared.specs.Held.{type_names}
+use Rattle.cedar_declared.specs.declared.type_names.TypeNames.{TypeNames}
+
+-- the order of identifiers
+abbrev pub id_cmp : Id → Id → Ordering
+id_cmp a b = word_cmp (id_word a) (id_word b)
+
+-- a name put to the others, given its namespace
+abbrev pub put_name : TypeNames → InternalName → List Id → TypeNames
+put_name t n [] = record { unqualified = insert_entry id_cmp t.unqualified (basename_of n) (loc_of n); qualified = t.qualified }
+put_name t n (id ∷ ids) = record { unqualified = t.unqualified; qualified = insert_key internal_cmp t.qualified n }
+
+-- a name put to the others, unless it is one of them
+abbrev pub with_name : TypeNames → InternalName → TypeNames
+with_name t n = cond (contains words_cmp (type_names t) (components n)) t (put_name t n (namespace_of n))
+
+-- the new names are the old ones and this one, as far as a name of a schema can tell
+abbrev pub AddsName : List FullName → List FullName → InternalName → Type 0
+AddsName old new name = (other : InternalName)
+    → contains words_cmp new (components other) ≡ (is_at (words_cmp (components other)) (components name) || contains words_cmp old (components other))

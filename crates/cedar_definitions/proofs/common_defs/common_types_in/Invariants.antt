@@ -1,0 +1,14 @@
+-- SPDX-License-Identifier: Apache-2.0
+use Rattle.std.proofs.Common.{◌≡◌, fold}
+use Rattle.std.specs.BTreeMap.{insert_entry}
+use Rattle.std.specs.Option.{option_copied}
+use Rattle.cedar_data.specs.Maps.{map_of}
+use Rattle.cedar_names.specs.Names.{internal_cmp}
+use Rattle.cedar_definitions.specs.CommonDefs.{named_types}
+use Rattle.cedar_definitions.proofs.common_defs.common_types_in.Given as goal
+
+-- the types so far, with those that are left, are all
+abbrev pub invariant-loop-id : goal.invariant-loop-id
+invariant-loop-id l =
+    fold (λ es pair. insert_entry internal_cmp es pair.0 pair.1) l.types (named_types (option_copied l.namespace) l.id-iterator)
+    ≡ map_of internal_cmp (named_types (option_copied l.fn.namespace) l.fn.defs)

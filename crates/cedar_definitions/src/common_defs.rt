@@ -1,0 +1,88 @@
+// SPDX-License-Identifier: Apache-2.0
+ghost use Rattle.std.specs.Prelude.{◌≡◌, [], ◌∷◌, IfOk};
+ghost use Rattle.std.specs.Option.{option_copied};
+ghost use Rattle.cedar_data.specs.Maps.{map_of};
+ghost use Rattle.cedar_names.specs.Names.{internal_cmp};
+ghost use Rattle.cedar_definitions.specs.CommonDefs.{IsOfCommonTypes, name_in, named_types};
+
+use crate::structures::{ActionsDef, CommonTypeDefs, EntityTypesDef, ValidatorNamespaceDef};
+use cedar_data::{Map, Mem};
+use cedar_names::{InternalName, UnreservedId};
+use cedar_written::{ConditionalName, SchemaType};
+use std::alloc::Global;
+use std::collections::BTreeMap;
+
+impl ValidatorNamespaceDef<ConditionalName, ConditionalName> {
+    /// The definition of these common types alone, under their names in the namespace.
+    pub fn from_common_type_defs(
+        alloc: Global,
+        namespace: Option<InternalName>,
+        defs: BTreeMap<UnreservedId, SchemaType<ConditionalName>>,
+    ) -> Mem<ValidatorNamespaceDef<ConditionalName, ConditionalName>>
+        ensures { IfOk result (λ d. IsOfCommonTypes namespace defs.entries d) }
+    {
+        let types = common_types_in(alloc, namespace.as_ref(), Map::from_map(defs))?;
+        Ok(of_common_types(alloc, namespace, types))
+    }
+
+    /// The definition of this common type alone, under its name in the namespace.
+    pub fn from_common_type_def(
+        alloc: Global,
+        namespace: Option<InternalName>,
+        id: UnreservedId,
+        def: SchemaType<ConditionalName>,
+    ) -> Mem<ValidatorNamespaceDef<ConditionalName, ConditionalName>>
+        ensures { IfOk result (λ d. IsOfCommonTypes namespace ((id, def) ∷ []) d) }
+    {
+        let mut types = Map::new(alloc);
+        let name = name_in(alloc, namespace.as_ref(), id)?;
+        types.put(name, def)?;
+        Ok(of_common_types(alloc, namespace, types))
+    }
+}
+
+/// The definition of these common types alone. It takes no memory.
+fn of_common_types(
+    alloc: Global,
+    namespace: Option<InternalName>,
+    defs: Map<InternalName, SchemaType<ConditionalName>>,
+) -> ValidatorNamespaceDef<ConditionalName, ConditionalName>
+    ensures { result ≡ record {
+      namespace = namespace;
+      common_types = record { defs = defs };
+      entity_types = record { defs = []; locs = [] };
+      actions = record { actions = [] };
+    } }
+{
+    ValidatorNamespaceDef {
+        namespace,
+        common_types: CommonTypeDefs { defs },
+        entity_types: EntityTypesDef::new(alloc),
+        actions: ActionsDef::new(alloc),
+    }
+}
+
+/// The name of an identifier in the namespace, with no place.
+fn name_in(alloc: Global, namespace: Option<&InternalName>, id: UnreservedId) -> Mem<InternalName>
+    ensures { IfOk result (λ n. n ≡ name_in (option_copied namespace.entry) id) }
+{
+    let name = InternalName::unqualified_name(alloc, id.into_id(), None);
+    let name = name.qualify_with(alloc, namespace)?;
+    Ok(name)
+}
+
+/// The common types under their names in the namespace.
+fn common_types_in(
+    alloc: Global,
+    namespace: Option<&InternalName>,
+    defs: Map<UnreservedId, SchemaType<ConditionalName>>,
+) -> Mem<Map<InternalName, SchemaType<ConditionalName>>>
+    ensures { IfOk result (λ m. m ≡ map_of internal_cmp (named_types (option_copied namespace.entry) defs)) }
+{
+    let mut types = Map::new(alloc);
+    for (id, ty) in defs.into_entries() {
+        let name = name_in(alloc, namespace, id)?;
+        types.put(name, ty)?;
+    }
+    Ok(types)
+}
