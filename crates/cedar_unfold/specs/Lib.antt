@@ -7,3 +7,11 @@ pub mod Meanings
 pub mod Unfolds
 pub mod Faults
 pub mod UnfoldPhases
+pub mod Heads
+pub mod Following
+pub mod Finished
+pub mod Tables
+pub mod Notes
+pub mod Rows
+pub mod Full
+pub mod Passing

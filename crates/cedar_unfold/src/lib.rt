@@ -1,4 +1,21 @@
 // SPDX-License-Identifier: Apache-2.0
 //! Common types written out: what each common type and each use of a type unfolds to, once each, and
-//! why a schema has no such types.
+//! why a schema has no such types. It looks at each written type at most twice.
 #![tactic(auto)]
+
+mod building;
+mod copies;
+mod entries;
+mod faults;
+mod fill;
+mod keys;
+mod nested;
+mod node;
+mod schema_type;
+mod steps;
+mod survey;
+mod unfold_type;
+mod uses;
+
+pub use node::{Looked, TypeNode};
+pub use steps::Steps;

@@ -1,0 +1,91 @@
+-- SPDX-License-Identifier: Apache-2.0
+-- What a use is refused for, and that it passes.
+use Rattle.std.proofs.Common.{◌≡◌, ℕ, ◌≤◌, ◌<◌, inl, inr, Bool, List, [], Option, Some, None, Result, Ok, Err, refl, sym, ap, ◌∙◌, subst}
+use Rattle.std.specs.List.Sorted.{IsStrictlySortedBy}
+use Rattle.std.specs.Map.{keys_of}
+use Rattle.cedar_data.specs.Answers.{IfRefused}
+use Rattle.cedar_data.specs.Firsts.{IsFirst}
+use Rattle.cedar_data.specs.declared.memory.Failure.{Failure}
+use Rattle.cedar_data.specs.declared.memory.Failure.TheVariants.{Refused, NoMemory}
+use Rattle.cedar_names.specs.Extensions.{extension_words}
+use Rattle.cedar_names.specs.Names.{internal_cmp}
+use Rattle.cedar_names.specs.Order.{words_cmp}
+use Rattle.cedar_names.specs.declared.extensions.Extensions.{Extensions}
+use Rattle.cedar_names.specs.declared.internal_name.InternalName.{InternalName}
+use Rattle.cedar_schema_error.specs.FullNames.{FullName}
+use Rattle.cedar_schema_error.specs.Refusals.{UsePlace, Refusal, TooDeep, Place, ContextOrShapeNotRecord}
+use Rattle.cedar_text.specs.Words.{has_word}
+use Rattle.cedar_unfold.specs.Faults.{faults, faults_by}
+use Rattle.cedar_unfold.specs.Finished.{finished}
+use Rattle.cedar_unfold.specs.Following.{first_of}
+use Rattle.cedar_unfold.specs.Full.{IsReady, meanings_of}
+use Rattle.cedar_unfold.specs.Meanings.{Meanings}
+use Rattle.cedar_unfold.specs.Passing.{PassesAs}
+use Rattle.cedar_unfold.specs.Resolved.{Resolved, nest, deepest}
+use Rattle.cedar_unfold.specs.Tables.{is_among, names_of}
+use Rattle.cedar_unfold.specs.UnfoldPhases.{Fits, UseRefuses}
+use Rattle.cedar_unfold.specs.Unfolds.{Unfolds}
+use Rattle.cedar_unfold.specs.Written.{Written}
+use Rattle.cedar_unfold.proofs.Keeping.{Finishes}
+use Rattle.cedar_unfold.proofs.NameTables.{names-sorted}
+use Rattle.cedar_unfold.proofs.Ready.{first-is, first-none, within-some, within-none, finishes_full, faults-same}
+
+-- what holds of a refusal holds of more
+pub refused-weaker : {T E : Type 0} (r : Result T (Failure E)) (P Q : E → Type 0) → ((e : E) → P e → Q e) → IfRefused r P → IfRefused r Q
+refused-weaker (Ok value) P Q f p = p
+refused-weaker (Err (Refused e)) P Q f p = f e p
+refused-weaker (Err NoMemory) P Q f p = p
+
+module _ (keys : List InternalName) (extensions : Extensions) (table : FullName → Option (Option Resolved)) (sorted : IsStrictlySortedBy internal_cmp keys) (place : UsePlace) (t : Written FullName)
+    (definitions : List (FullName × Written FullName)) (ready : IsReady (names_of keys) extensions table definitions) where
+  abbrev m : Meanings FullName
+  m = meanings_of definitions extensions
+
+  -- the first fault by the names of the common types
+  abbrev first_fault : Option Refusal
+  first_fault = first_of (faults_by Some (is_among (names_of keys)) (has_word (extension_words extensions)) t)
+
+  same_faults : faults_by Some (is_among (names_of keys)) (has_word (extension_words extensions)) t ≡ faults m t
+  same_faults =
+      ap (λ names. faults_by Some (is_among names) (has_word (extension_words extensions)) t) ready.named
+      ∙ faults-same definitions (has_word (extension_words extensions)) (subst (IsStrictlySortedBy words_cmp) ready.named (names-sorted keys sorted)) t
+
+  pub refused-fault : (r e : Refusal) → Some r ≡ first_fault → e ≡ r → UseRefuses m (place, t) e
+  refused-fault r e first is = inl (subst (IsFirst (faults m t)) (sym is) (first-is (faults m t) r (first ∙ ap first_of same_faults)))
+
+  module _ (none : None ≡ first_fault) where
+    faultless : faults m t ≡ []
+    faultless = first-none (faults m t) (none ∙ ap first_of same_faults)
+
+    finishes : Finishes m t (finished table t)
+    finishes = finishes_full definitions (has_word (extension_words extensions)) ready.full t faultless
+
+    pub refused-deep : (e : Refusal) → None ≡ finished table t → e ≡ TooDeep (Place place) → UseRefuses m (place, t) e
+    refused-deep e found is = inr (inl (faultless, (finishes.ty, finishes.unfolds, within-none finishes.ty (sym finishes.is ∙ sym found)), is))
+
+    module _ (T : Resolved) (found : Some T ≡ finished table t) where
+      kept : (T ≡ finishes.ty) × (nest finishes.ty ≤ deepest)
+      kept = within-some finishes.ty T (sym finishes.is ∙ sym found)
+
+      unfolds : Unfolds m t T
+      unfolds = subst (Unfolds m t) (sym kept.0) finishes.unfolds
+
+    pub passes : (T U : Resolved) → Some T ≡ finished table t → U ≡ T → Fits place T → PassesAs m (place, t) U
+    passes T U found same fits = subst (PassesAs m (place, t)) (sym same) (record {
+      faultless = faultless;
+      unfolds = unfolds T found;
+      within = subst (λ V. nest V ≤ deepest) (sym (kept T found).0) (kept T found).1;
+      fits = fits;
+    })
+
+    pub refused-misfit : (T : Resolved) (e : Refusal) → Some T ≡ finished table t → (Fits place T → ⊥) → e ≡ ContextOrShapeNotRecord place → UseRefuses m (place, t) e
+    refused-misfit T e found misfit is = inr (inr (
+      faultless,
+      record {
+        resolved = T;
+        unfolds = unfolds T found;
+        within = subst (λ V. nest V ≤ deepest) (sym (kept T found).0) (kept T found).1;
+        misfit = misfit;
+      },
+      is,
+    ))
