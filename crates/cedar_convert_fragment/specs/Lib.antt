@@ -1,0 +1,5 @@
+-- SPDX-License-Identifier: Apache-2.0
+pub use Rattle.cedar_data.specs.formers
+pub mod Declares
+pub mod Fragments
+pub mod Views
