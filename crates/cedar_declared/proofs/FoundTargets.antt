@@ -1,6 +1,6 @@
 -- SPDX-License-Identifier: Apache-2.0
 -- What is found among names is the target among their components.
-use Rattle.std.proofs.Common.{◌≡◌, ◌||◌, ℕ, Bool, true, false, List, [], ◌∷◌, map, Option, Some, None, option_map, cond, refl, sym, ap, ◌∙◌}
+use Rattle.std.proofs.Common.{◌≡◌, ◌||◌, ℕ, Bool, true, false, List, [], ◌∷◌, map, Some, option_map, cond, refl, ap, ◌∙◌}
 use Rattle.std.specs.List.{find}
 use Rattle.cedar_names.specs.Components.{components}
 use Rattle.cedar_names.specs.declared.internal_name.InternalName.{InternalName}
@@ -10,7 +10,7 @@ use Rattle.cedar_written.specs.Possibilities.{kind_of, possibilities_of}
 use Rattle.cedar_written.specs.declared.conditional_name.ConditionalName.{ConditionalName}
 use Rattle.cedar_written.specs.declared.reference_type.ReferenceType.{ReferenceType}
 use Rattle.cedar_written.specs.declared.reference_type.ReferenceType.TheVariants.{Common, Entity, CommonOrEntity}
-use Rattle.cedar_schema_error.specs.FullNames.{FullName, Uid}
+use Rattle.cedar_schema_error.specs.FullNames.{FullName}
 use Rattle.cedar_schema_error.specs.NameReferences.{action_reference_of, reference_of}
 use Rattle.cedar_declared.specs.Names.{Names, SameNames, action_target, is_action, is_declared, target}
 use Rattle.cedar_declared.specs.Targets.{action_at, found, found_action}

@@ -1,9 +1,8 @@
 -- SPDX-License-Identifier: Apache-2.0
 -- The names that definitions declare, and how they are gathered.
-use Rattle.std.specs.Prelude.{List, [], ◌∷◌, ◌++◌, fold, map}
+use Rattle.std.specs.Prelude.{List, [], fold, map}
 use Rattle.std.specs.BTreeSet.{insert_key}
 use Rattle.std.specs.List.{flat_map}
-use Rattle.std.specs.Map.{keys_of}
 use Rattle.std.specs.declared.alloc.Global.{Global}
 use Rattle.std.specs.declared.cmp.Ordering.{Ordering}
 use Rattle.cedar_names.specs.Components.{components}

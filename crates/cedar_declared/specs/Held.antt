@@ -1,10 +1,9 @@
 -- SPDX-License-Identifier: Apache-2.0
 -- The names that are held.
-use Rattle.std.specs.Prelude.{◌++◌, ◌&&◌, Bool, not, List, [], ◌∷◌, map, Option}
-use Rattle.std.specs.List.{filter, find, flat_map}
+use Rattle.std.specs.Prelude.{◌++◌, List, [], ◌∷◌, map, Option}
+use Rattle.std.specs.List.{filter}
 use Rattle.cedar_names.specs.Components.{components}
 use Rattle.cedar_names.specs.Identifiers.{id_word}
-use Rattle.cedar_names.specs.declared.entity_uid.EntityUID.{EntityUID}
 use Rattle.cedar_names.specs.declared.id.Id.{Id}
 use Rattle.cedar_text.specs.declared.location.Loc.{Loc}
 use Rattle.cedar_schema_error.specs.FullNames.{FullName, is_qualified, uid_in}

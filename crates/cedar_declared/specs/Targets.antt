@@ -1,6 +1,6 @@
 -- SPDX-License-Identifier: Apache-2.0
 -- What comes of a reference: its target, or the error that holds it alone.
-use Rattle.std.specs.Prelude.{ℕ, Bool, List, [], Option, Some, None, unwrap_or}
+use Rattle.std.specs.Prelude.{ℕ, List, [], Option, Some, None, unwrap_or}
 use Rattle.std.specs.List.{find}
 use Rattle.std.specs.declared.result.Result.{Result}
 use Rattle.std.specs.declared.result.Result.TheVariants.{Ok, Err}
@@ -8,7 +8,6 @@ use Rattle.cedar_text.specs.Lists.{elements}
 use Rattle.cedar_names.specs.Components.{components}
 use Rattle.cedar_names.specs.declared.internal_name.InternalName.{InternalName}
 use Rattle.cedar_fragment.specs.ActionUids.{over_conditional, uid_of}
-use Rattle.cedar_fragment.specs.declared.action_uid.ActionEntityUID.{ActionEntityUID}
 use Rattle.cedar_written.specs.Possibilities.{kind_of, leading, possibilities_of, unconditional, written}
 use Rattle.cedar_written.specs.Qualifying.{action_name}
 use Rattle.cedar_written.specs.Reference.{Reference, named, parent}

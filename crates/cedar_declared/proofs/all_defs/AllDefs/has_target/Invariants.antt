@@ -1,5 +1,5 @@
 -- SPDX-License-Identifier: Apache-2.0
-use Rattle.std.proofs.Common.{◌≡◌, is_some}
+use Rattle.std.proofs.Common.{◌≡◌}
 use Rattle.std.specs.List.{find}
 use Rattle.cedar_names.specs.Components.{components}
 use Rattle.cedar_text.specs.Lists.{elements_left}
