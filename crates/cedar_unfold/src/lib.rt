@@ -3,6 +3,7 @@
 //! why a schema has no such types. It looks at each written type at most twice.
 #![tactic(auto)]
 
+mod all;
 mod building;
 mod copies;
 mod entries;
@@ -17,5 +18,6 @@ mod survey;
 mod unfold_type;
 mod uses;
 
+pub use all::{Unfolded, unfold_all};
 pub use node::{Looked, TypeNode};
 pub use steps::Steps;
