@@ -1,0 +1,9 @@
+-- SPDX-License-Identifier: Apache-2.0
+use Rattle.std.proofs.Common.{◌≡◌, drop}
+use Rattle.cedar_json_types.proofs.ItemLoops.{ReadsItems}
+use Rattle.cedar_json_read.specs.Declarations.{IsParent, parent_fault}
+use Rattle.cedar_json_read.proofs.actions.read_parents.Given as goal
+
+-- the items so far are read, and none had a fault
+abbrev pub invariant-loop-item : goal.invariant-loop-item
+invariant-loop-item l = ReadsItems IsParent parent_fault l.items.items (drop l.item-index l.item-items) l.place l.read × (l.place ≡ l.item-index)
