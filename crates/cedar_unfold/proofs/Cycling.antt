@@ -1,10 +1,9 @@
 -- SPDX-License-Identifier: Apache-2.0
 -- Chains of references between common types are chains of rows.
-use Rattle.std.proofs.Common.{◌≡◌, ℕ, ◌+◌, ◌<◌, ◌≤◌, inl, inr, Bool, true, List, [], ◌∷◌, Option, Some, None, length, get_or, zero, suc, Contains, ⊎_elim, refl, sym, ap, ◌∙◌, subst, arith}
-use Rattle.std.proofs.lemmas.Bool.{cases_lt, cases_eq}
+use Rattle.std.proofs.Common.{◌≡◌, ℕ, ◌<◌, inl, inr, Bool, List, [], ◌∷◌, Option, Some, None, length, get_or, zero, suc, Contains, ⊎_elim, refl, sym, ap, ◌∙◌, subst, arith}
+use Rattle.std.proofs.lemmas.Bool.{cases_eq}
 use Rattle.std.proofs.lemmas.List.Elements.{Contains-append_right}
 use Rattle.std.proofs.lemmas.Map.Keys.{Less-from_sorted}
-use Rattle.std.proofs.lemmas.Option.{none-some}
 use Rattle.std.specs.BTreeMap.{is_at}
 use Rattle.std.specs.Bool.{IsTrue}
 use Rattle.std.specs.List.{position_or_len}
@@ -12,19 +11,17 @@ use Rattle.std.specs.List.Sorted.{IsStrictlySortedBy}
 use Rattle.std.specs.Map.{keys_of}
 use Rattle.std.specs.Option.{is_some}
 use Rattle.std.specs.Ordering.{ordering_reverse}
-use Rattle.std.specs.declared.cmp.Ordering.{Ordering}
 use Rattle.std.specs.declared.cmp.Ordering.TheVariants.{Less, Equal, Greater}
 use Rattle.cedar_closure.proofs.ChainLaws.{Reaches-map}
 use Rattle.cedar_closure.specs.Chains.{Reaches, one, more}
 use Rattle.cedar_closure.specs.Marks.{Leads}
 use Rattle.cedar_data.specs.Firsts.{SomePasses, IsLeast}
-use Rattle.cedar_data.specs.Maps.{get}
 use Rattle.cedar_names.proofs.NameOrder.{words_cmp-equal}
 use Rattle.cedar_names.specs.Order.{words_cmp}
 use Rattle.cedar_schema_error.specs.FullNames.{FullName}
 use Rattle.cedar_sorting.specs.Orders.{IsLeastOnCycle}
 use Rattle.cedar_sorting.proofs.OrderLaws.{leads_inside}
-use Rattle.cedar_unfold.specs.Meanings.{Meanings, full_meanings, definition_of, is_common}
+use Rattle.cedar_unfold.specs.Meanings.{Meanings, full_meanings, definition_of}
 use Rattle.cedar_unfold.specs.Rows.{row_of, written_rows}
 use Rattle.cedar_unfold.specs.Tables.{place_of}
 use Rattle.cedar_unfold.specs.UnfoldPhases.{Refers, IsCircular}

@@ -1,6 +1,6 @@
 -- SPDX-License-Identifier: Apache-2.0
 -- The definition and the name at a step of the loop that finishes the common types.
-use Rattle.std.proofs.Common.{◌≡◌, ◌+◌, ◌<◌, ◌≤◌, ℕ, None, Some, List, [], map, length, get_or, option_map, refl, sym, ap, ◌∙◌, subst, arith}
+use Rattle.std.proofs.Common.{◌≡◌, ◌<◌, ℕ, None, Some, List, [], length, get_or, option_map, sym, ap, ◌∙◌, subst, arith}
 use Rattle.std.proofs.lemmas.List.{get_or-map, length-map}
 use Rattle.std.proofs.lemmas.Option.{none-some}
 use Rattle.std.specs.List.Sorted.{IsStrictlySortedBy}

@@ -1,6 +1,6 @@
 -- SPDX-License-Identifier: Apache-2.0
 -- From the answers of the parts to what the whole answers.
-use Rattle.std.proofs.Common.{◌≡◌, ℕ, ◌≤◌, inl, inr, ⊎_elim, Bool, List, [], Option, Some, refl, sym, ap, ◌∙◌, subst}
+use Rattle.std.proofs.Common.{◌≡◌, ℕ, ⊎_elim, Bool, List, Option, sym, subst}
 use Rattle.std.specs.List.{AllZip}
 use Rattle.std.specs.List.Sorted.{IsStrictlySortedBy}
 use Rattle.std.specs.Map.{keys_of}
@@ -15,7 +15,7 @@ use Rattle.cedar_text.specs.Words.{has_word}
 use Rattle.cedar_unfold.specs.Full.{AreFaultless, IsFull, IsReady, UsesOf, job_of, meanings_of}
 use Rattle.cedar_unfold.specs.Meanings.{Meanings, full_meanings}
 use Rattle.cedar_unfold.specs.Passing.{DefinitionsPass, DefinitionsRefuse, GivesUse, HasSome, HasType, LacksType}
-use Rattle.cedar_unfold.specs.Resolved.{Resolved, nest, deepest}
+use Rattle.cedar_unfold.specs.Resolved.{Resolved}
 use Rattle.cedar_unfold.specs.Tables.{by_name, names_of}
 use Rattle.cedar_unfold.specs.UnfoldPhases.{Job, UnfoldsWithin, UsePasses, UseRefuses, Unfoldable, WhyNotUnfoldable, IsUnfolded}
 use Rattle.cedar_unfold.specs.Written.{Written}

@@ -1,6 +1,6 @@
 -- SPDX-License-Identifier: Apache-2.0
 -- A loop that gathers what items give, and stops at the first that is refused.
-use Rattle.std.proofs.Common.{◌≡◌, List, map, [], ◌∷◌, ◌++◌, inl, inr, refl, sym, ap, ◌∙◌, subst, append_assoc}
+use Rattle.std.proofs.Common.{◌≡◌, List, map, [], ◌∷◌, ◌++◌, inl, inr, refl, sym, ap, subst, append_assoc}
 use Rattle.std.proofs.lemmas.List.{append-nil}
 use Rattle.std.specs.List.{AllZip}
 use Rattle.std.specs.Map.{keys_of}

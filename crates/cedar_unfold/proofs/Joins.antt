@@ -1,7 +1,6 @@
 -- SPDX-License-Identifier: Apache-2.0
 -- A loop over the attributes of a record, which joins what each unfolds to.
-use Rattle.std.proofs.Common.{◌≡◌, ℕ, ◌+◌, ◌≤◌, Bool, List, [], ◌∷◌, ◌++◌, Option, Some, None, max, refl, sym, ap, ◌∙◌, subst, append_assoc, arith}
-use Rattle.std.proofs.lemmas.List.{append-nil}
+use Rattle.std.proofs.Common.{◌≡◌, ℕ, Bool, List, [], ◌∷◌, ◌++◌, Option, Some, None, max, refl, sym, ap, ◌∙◌, subst, append_assoc, arith}
 use Rattle.std.proofs.Math.Nat.{max-zero, zero-max}
 use Rattle.std.specs.Cmp.Lexicographic.{slice_cmp}
 use Rattle.std.specs.List.Sorted.{IsStrictlySortedBy}
@@ -10,7 +9,7 @@ use Rattle.std.specs.Ordering.{nat_cmp}
 use Rattle.cedar_data.proofs.Rebuild.{sorted_next_key}
 use Rattle.cedar_types.specs.declared.ty.AttributeType.{AttributeType}
 use Rattle.cedar_schema_error.specs.FullNames.{FullName}
-use Rattle.cedar_unfold.specs.Finished.{finished, finished_each, with_attribute, record_of}
+use Rattle.cedar_unfold.specs.Finished.{finished, finished_each, with_attribute}
 use Rattle.cedar_unfold.specs.Following.{labels, first_attribute, following}
 use Rattle.cedar_unfold.specs.Resolved.{Resolved, ResolvedAttributes, nest, greatest_nest}
 use Rattle.cedar_unfold.specs.Resolved as resolved_types

@@ -1,13 +1,12 @@
 -- SPDX-License-Identifier: Apache-2.0
 -- What a table of finished types gives is what a type without faults unfolds to.
-use Rattle.std.proofs.Common.{◌≡◌, ℕ, ◌+◌, ◌≤◌, ◌<◌, ◌⊎◌, inl, inr, ⊎_elim, Bool, true, false, cond, List, [], ◌∷◌, ◌++◌, Option, Some, None, max, nat_le, refl, sym, ap, ◌∙◌, subst, arith}
+use Rattle.std.proofs.Common.{◌≡◌, ℕ, ◌+◌, ◌⊎◌, ⊎_elim, Bool, true, false, cond, List, [], ◌∷◌, ◌++◌, Option, Some, None, max, nat_le, refl, sym, ap, ◌∙◌, subst, arith}
 use Rattle.std.proofs.lemmas.Bool.Decides.{leb_tells}
 use Rattle.std.specs.Bool.{IsTrue}
 use Rattle.std.specs.List.{AllByRecursion}
 use Rattle.std.specs.Option.{is_some}
 use Rattle.cedar_names.specs.Components.{has_cedar}
 use Rattle.cedar_schema_error.specs.FullNames.{FullName}
-use Rattle.cedar_schema_error.specs.Refusals.{Refusal, UnknownExtensionType, CommonTypeInvariantViolation, ReservedName, OpenRecord}
 use Rattle.cedar_unfold.specs.Faults.{faults, attribute_faults, open_fault, extension_fault, reserved_fault, either_fault, common_fault}
 use Rattle.cedar_unfold.specs.Finished.{within, set_of, record_of, with_attribute, entity_of, common_or_entity, common_of, finished, finished_each}
 use Rattle.cedar_unfold.specs.Full.{IsDone}

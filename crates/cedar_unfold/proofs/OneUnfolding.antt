@@ -1,6 +1,6 @@
 -- SPDX-License-Identifier: Apache-2.0
 -- A written type unfolds to at most one type.
-use Rattle.std.proofs.Common.{◌≡◌, ℕ, Bool, false, List, Option, Some, None, refl, sym, ap, ◌∙◌, subst}
+use Rattle.std.proofs.Common.{◌≡◌, false, Some, refl, sym, ap, ◌∙◌, subst}
 use Rattle.std.proofs.lemmas.Option.{none-some}
 use Rattle.cedar_schema_error.specs.FullNames.{FullName}
 use Rattle.cedar_unfold.specs.Meanings.{Meanings, MeansCommon, MeansEntity, definition_of}

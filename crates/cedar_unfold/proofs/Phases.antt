@@ -1,6 +1,6 @@
 -- SPDX-License-Identifier: Apache-2.0
 -- From what the phases of unfolding answer to what the whole answers.
-use Rattle.std.proofs.Common.{◌≡◌, List, [], inl, inr}
+use Rattle.std.proofs.Common.{inl, inr}
 use Rattle.cedar_schema_error.specs.Refusals.{Refusal}
 use Rattle.cedar_unfold.specs.UnfoldPhases.{Job, CommonCycles, CommonFaults, CommonDepths, Uses, UnfoldPasses, UnfoldRefuses, Unfoldable, WhyNotUnfoldable}
 

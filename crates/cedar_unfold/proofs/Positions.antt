@@ -1,12 +1,12 @@
 -- SPDX-License-Identifier: Apache-2.0
 -- Definitions by position among their names.
-use Rattle.std.proofs.Common.{◌≡◌, ℕ, ◌+◌, ◌<◌, ◌≤◌, Bool, true, false, ◌||◌, cond, List, [], ◌∷◌, Option, Some, None, length, map, get_or, zero, suc, All, Contains, ⊎_elim, refl, sym, ap, ◌∙◌, subst, arith}
+use Rattle.std.proofs.Common.{◌≡◌, ℕ, ◌<◌, Bool, true, false, ◌||◌, cond, List, [], ◌∷◌, Option, Some, None, length, get_or, zero, suc, All, Contains, refl, sym, ap, ◌∙◌, subst, arith}
 use Rattle.std.proofs.lemmas.Cmp.{eq_by_cmp_equiv}
-use Rattle.std.proofs.lemmas.List.{get_or-map, length-map, get_or_default}
+use Rattle.std.proofs.lemmas.List.{get_or-map, length-map}
 use Rattle.std.proofs.lemmas.List.Elements.{Contains-get_or, All-map, Contains-append_right}
 use Rattle.std.proofs.lemmas.List.Quantifiers.{position-Some}
 use Rattle.std.proofs.lemmas.Map.Keys.{IsDistinct-from_sorted}
-use Rattle.std.proofs.lemmas.Map.Views.{lookup-from_Contains, list_any-from_Contains}
+use Rattle.std.proofs.lemmas.Map.Views.{lookup-from_Contains}
 use Rattle.std.proofs.lemmas.Option.{none-some}
 use Rattle.std.specs.BTreeMap.{is_at}
 use Rattle.std.specs.Cmp.{IsTotalOrder}
@@ -15,14 +15,14 @@ use Rattle.std.specs.List.Sorted.{IsStrictlySortedBy}
 use Rattle.std.specs.Map.{keys_of, lookup}
 use Rattle.cedar_closure.proofs.KeyChains.{place-known}
 use Rattle.cedar_closure.proofs.PlaceLemmas.{equal_from_is_eq}
-use Rattle.cedar_closure.specs.Marks.{Leads, LeadWithin}
+use Rattle.cedar_closure.specs.Marks.{LeadWithin}
 use Rattle.cedar_data.specs.Maps.{get}
 use Rattle.cedar_names.proofs.NameOrder.{words_cmp-equal}
 use Rattle.cedar_names.specs.Order.{words_cmp}
 use Rattle.cedar_names.specs.OrderLaws.{words-total}
 use Rattle.cedar_schema_error.specs.FullNames.{FullName}
 use Rattle.cedar_unfold.specs.Rows.{row_of, written_rows}
-use Rattle.cedar_unfold.specs.Tables.{place_of, is_among}
+use Rattle.cedar_unfold.specs.Tables.{place_of}
 use Rattle.cedar_unfold.specs.Written.{Written, Boolean, common_references}
 
 -- names in order

@@ -1,6 +1,6 @@
 -- SPDX-License-Identifier: Apache-2.0
 -- The plain tree that a resolved type is, for each way to make one.
-use Rattle.std.proofs.Common.{◌≡◌, ℕ, ◌+◌, Bool, List, [], ◌∷◌, max, refl, sym, ap, ◌∙◌}
+use Rattle.std.proofs.Common.{◌≡◌, ℕ, Bool, List, sym, ap, ◌∙◌}
 use Rattle.cedar_data.specs.Maps.{map_values}
 use Rattle.cedar_names.specs.Names.{entity_words, name_words}
 use Rattle.cedar_names.specs.declared.name.EntityType.{EntityType}

@@ -1,6 +1,6 @@
 -- SPDX-License-Identifier: Apache-2.0
 -- From what loops answer to what the phases on common types ask and refuse.
-use Rattle.std.proofs.Common.{◌≡◌, ℕ, ◌≤◌, ◌<◌, inl, inr, ⊎_elim, Bool, List, [], ◌∷◌, ◌++◌, Option, Some, None, Contains, refl, sym, ap, ◌∙◌, subst, arith}
+use Rattle.std.proofs.Common.{◌≡◌, ℕ, ◌≤◌, inl, inr, ⊎_elim, Bool, List, [], ◌∷◌, ◌++◌, Option, Some, None, Contains, refl, sym, ap, ◌∙◌, subst, arith}
 use Rattle.std.proofs.lemmas.Cmp.{eq_by_cmp_equiv}
 use Rattle.std.proofs.lemmas.List.Elements.{Contains-append_right}
 use Rattle.std.proofs.lemmas.Map.Keys.{IsDistinct-from_sorted}
@@ -16,7 +16,7 @@ use Rattle.cedar_schema_error.specs.Refusals.{Refusal, TooDeep, CommonType}
 use Rattle.cedar_unfold.specs.Faults.{faults}
 use Rattle.cedar_unfold.specs.Finished.{within, common_of}
 use Rattle.cedar_unfold.specs.Following.{first_of}
-use Rattle.cedar_unfold.specs.Full.{IsDone, IsFull}
+use Rattle.cedar_unfold.specs.Full.{IsFull}
 use Rattle.cedar_unfold.specs.Meanings.{Meanings, full_meanings, definition_of}
 use Rattle.cedar_unfold.specs.Passing.{HasType, HasSome, LacksType}
 use Rattle.cedar_unfold.specs.Resolved.{Resolved, nest, deepest}

@@ -1,7 +1,6 @@
 -- SPDX-License-Identifier: Apache-2.0
 -- What parts of the work ask and give.
 use Rattle.std.specs.Prelude.{◌≡◌, ◌<◌, ◌≤◌, ◌⊎◌, ℕ, List, [], Option, Some, None, slice_index_or}
-use Rattle.std.specs.List.{AllZip}
 use Rattle.cedar_names.specs.declared.extensions.Extensions.{Extensions}
 use Rattle.cedar_schema_error.specs.FullNames.{FullName}
 use Rattle.cedar_schema_error.specs.Refusals.{CommonType, CycleInCommonTypeReferences, Refusal, TooDeep, UsePlace}

@@ -10,6 +10,7 @@ mod entries;
 mod faults;
 mod fill;
 mod keys;
+mod laws;
 mod nested;
 mod node;
 mod schema_type;
@@ -19,5 +20,6 @@ mod unfold_type;
 mod uses;
 
 pub use all::{Unfolded, unfold_all};
+pub use laws::one_unfolding;
 pub use node::{Looked, TypeNode};
 pub use steps::Steps;

@@ -1,16 +1,14 @@
 -- SPDX-License-Identifier: Apache-2.0
-use Rattle.std.proofs.Common.{◌≡◌, ◌++◌, ◌∷◌, [], Some, None, option_map, refl, sym, ap, ◌∙◌, subst, append_assoc}
+use Rattle.std.proofs.Common.{◌≡◌, ◌++◌, ◌∷◌, [], Some, refl, sym, ap, ◌∙◌, append_assoc}
 use Rattle.std.specs.Map.{keys_of}
 use Rattle.cedar_data.proofs.Rebuild.{sorted_next_key}
 use Rattle.cedar_names.specs.Components.{components}
 use Rattle.cedar_names.specs.Names.{internal_cmp}
-use Rattle.cedar_schema_error.specs.Told.{told}
 use Rattle.cedar_unfold.specs.Finished.{common_of}
 use Rattle.cedar_unfold.specs.Passing.{HasSome, HasType, LacksType}
 use Rattle.cedar_unfold.specs.ResolvedViews.{resolved}
-use Rattle.cedar_unfold.specs.Tables.{by_name, found_type, names_of, tabled}
-use Rattle.cedar_unfold.proofs.Gathering.{Gathering-next, Gathering-end, Gathering-stop, keys-push, map-push}
-use Rattle.cedar_unfold.proofs.NameTables.{get-by_name}
+use Rattle.cedar_unfold.specs.Tables.{by_name, names_of, tabled}
+use Rattle.cedar_unfold.proofs.Gathering.{Gathering-next, Gathering-end, keys-push, map-push}
 use Rattle.cedar_unfold.proofs.all.common_types.Goals as goal
 
 pub put_copy-requires : goal.put_copy-requires

@@ -1,5 +1,5 @@
 -- SPDX-License-Identifier: Apache-2.0
-use Rattle.std.proofs.Common.{sym, ◌+◌, ◌*◌, arith}
+use Rattle.std.proofs.Common.{sym, arith}
 use Rattle.cedar_names.specs.Extensions.{extension_words}
 use Rattle.cedar_text.specs.Words.{has_word}
 use Rattle.cedar_unfold.specs.Heads.{attributes_of}

@@ -1,5 +1,5 @@
 -- SPDX-License-Identifier: Apache-2.0
-use Rattle.std.proofs.Common.{◌≡◌, ◌+◌, ◌≤◌, false, max, None, Some, refl, sym, ap, ◌∙◌, subst, ◌++◌, ◌∷◌, [], arith, rules}
+use Rattle.std.proofs.Common.{◌≡◌, false, max, refl, sym, ap, ◌∙◌, subst, ◌++◌, ◌∷◌, [], arith}
 use Rattle.std.proofs.lemmas.Result.{IfOk-weaker}
 use Rattle.std.specs.Cmp.Lexicographic.{slice_cmp}
 use Rattle.std.specs.List.Sorted.{IsStrictlySortedBy}
@@ -12,9 +12,9 @@ use Rattle.cedar_unfold.specs.Heads.{attributes_of}
 use Rattle.cedar_unfold.specs.Resolved as resolved_types
 use Rattle.cedar_unfold.specs.ResolvedViews.{resolved_map}
 use Rattle.cedar_unfold.specs.Tables.{found_type, tabled}
-use Rattle.cedar_unfold.specs.Written.{nodes, attribute_nodes}
+use Rattle.cedar_unfold.specs.Written.{attribute_nodes}
 use Rattle.cedar_unfold.proofs.FollowingLemmas.{following-None, following-next, following-part, some_nodes}
-use Rattle.cedar_unfold.proofs.Joins.{Joining-start, Joining-next, Joining-sorted, Joining-deep, Joining-end}
+use Rattle.cedar_unfold.proofs.Joins.{Joining-start, Joining-next, Joining-sorted, Joining-end}
 use Rattle.cedar_unfold.proofs.NameTables.{either-found, either-missing, common-found, common-missing}
 use Rattle.cedar_unfold.proofs.unfold_type.+unfold.Goals as goal
 

@@ -1,5 +1,5 @@
 -- SPDX-License-Identifier: Apache-2.0
-use Rattle.std.proofs.Common.{◌≡◌, ◌+◌, ◌*◌, ◌≤◌, ◌++◌, ◌∷◌, [], refl, sym, ap, ◌∙◌, subst, append_assoc, arith}
+use Rattle.std.proofs.Common.{◌++◌, ◌∷◌, [], refl, sym, ap, ◌∙◌, append_assoc, arith}
 use Rattle.std.proofs.lemmas.List.Sums.{sum_by-cons}
 use Rattle.std.specs.Map.{keys_of}
 use Rattle.cedar_data.proofs.Rebuild.{sorted_next_key}
@@ -9,7 +9,7 @@ use Rattle.cedar_unfold.specs.Passing.{GivesUse}
 use Rattle.cedar_unfold.specs.ResolvedViews.{resolved}
 use Rattle.cedar_unfold.specs.UnfoldPhases.{UsePasses, UseRefuses}
 use Rattle.cedar_unfold.specs.Written.{all_nodes, nodes}
-use Rattle.cedar_unfold.proofs.Gathering.{Gathering-next, Gathering-end, Gathering-stop, keys-push, map-push}
+use Rattle.cedar_unfold.proofs.Gathering.{Gathering-next, Gathering-end, keys-push, map-push}
 use Rattle.cedar_unfold.proofs.uses.unfolded_uses.Goals as goal
 
 pub put_copy-requires : goal.put_copy-requires
