@@ -107,7 +107,7 @@ fn clause_list(
 }
 
 /// What an `appliesTo` says; where it is left out, nothing. It fails only for want of memory.
-pub fn applies_declared(
+pub(crate) fn applies_declared(
     alloc: Global,
     clauses: Option<Node<NonEmpty<Node<AppDecl>>>>,
 ) -> Mem<ApplySpec<RawName>>
@@ -130,7 +130,7 @@ fn parent_declared(parent: QualName) -> ActionEntityUID<RawName>
 }
 
 /// The parents, if there are any. It fails only for want of memory.
-pub fn parents_declared(
+pub(crate) fn parents_declared(
     alloc: Global,
     parents: Option<NonEmpty<Node<QualName>>>,
 ) -> Mem<Option<Items<ActionEntityUID<RawName>>>>

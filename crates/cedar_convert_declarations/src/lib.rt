@@ -1,8 +1,9 @@
 // SPDX-License-Identifier: Apache-2.0
-//! What the declarations of a schema declare, as code holds it: what actions apply to, and their parents.
+//! What the declarations of a schema declare, as code holds it: entity types, actions, common types.
 #![tactic(auto)]
 
 mod applying;
+mod kinds;
 mod putting;
 
-pub use applying::{applies_declared, parents_declared};
+pub use kinds::{add_actions, add_common, add_entities};
