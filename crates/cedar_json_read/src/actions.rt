@@ -8,8 +8,8 @@ ghost use Rattle.cedar_json_types.specs.Shapes.{ArrayOf, EachItem, MayHave, Noth
 ghost use Rattle.cedar_json_values.specs.ActionValues.{ValuePart, ValuesShape};
 ghost use Rattle.cedar_json_read.specs.Declarations.{IsAction, IsApplySpec, IsParent, action_fault, apply_fault, parent_fault, values_fault};
 
-use crate::from_json::FromJson;
 use crate::parts::{if_not_null, shape_at};
+use crate::reading::ReadDeclaration;
 use cedar_data::{Items, Out, Text};
 use cedar_fragment::{ActionEntityUID, ActionType, ApplySpec, RawName, ValueMap};
 use cedar_json_fault::{JsonDeserializationError, JsonKind};
@@ -20,7 +20,7 @@ use cedar_names::Annotations;
 use serde_json::Value;
 use std::alloc::Global;
 
-impl FromJson for ActionEntityUID<RawName> {
+impl ReadDeclaration for ActionEntityUID<RawName> {
     ghost shapes = { IsParent };
 
     ghost fault = { parent_fault };
@@ -36,7 +36,7 @@ impl FromJson for ActionEntityUID<RawName> {
     }
 }
 
-impl FromJson for ApplySpec<RawName> {
+impl ReadDeclaration for ApplySpec<RawName> {
     ghost shapes = { IsApplySpec };
 
     ghost fault = { apply_fault };
@@ -141,7 +141,7 @@ fn values_at(alloc: Global, value: &Value) -> Out<Option<ValueMap>, JsonDeserial
     }
 }
 
-impl FromJson for ActionType<RawName> {
+impl ReadDeclaration for ActionType<RawName> {
     ghost shapes = { IsAction };
 
     ghost fault = { action_fault };

@@ -8,23 +8,22 @@ ghost use Rattle.std.specs.Prelude.{codes, []};
 ghost use Rattle.cedar_json_types.specs.Faults.{first, needs};
 ghost use Rattle.cedar_json_types.specs.Shapes.{At};
 
-use crate::from_json::FromJson;
 use crate::parts::shape_at;
+use crate::reading::ReadDeclaration;
 use cedar_data::{Items, Mem, Out, Text};
 use cedar_fragment::{
     CommonType, EntityType, EntityTypeKind, RawName, SchemaType, StandardEntityType,
 };
 use cedar_json_fault::{JsonDeserializationError, JsonFault};
 use cedar_json_types::{
-    FromJson as ReadPart, KeySet, check_keys, if_there, missing, read_outer_type, refuse, under,
-    unless_absent,
+    KeySet, ReadPart, check_keys, if_there, missing, read_outer_type, refuse, under, unless_absent,
 };
 use cedar_names::Annotations;
 use cedar_text::NonEmpty;
 use serde_json::Value;
 use std::alloc::Global;
 
-impl FromJson for CommonType<RawName> {
+impl ReadDeclaration for CommonType<RawName> {
     ghost shapes = { IsCommonType };
 
     ghost fault = { common_type_fault };
@@ -190,7 +189,7 @@ fn with_notes(
     })
 }
 
-impl FromJson for EntityType<RawName> {
+impl ReadDeclaration for EntityType<RawName> {
     ghost shapes = { IsEntityType };
 
     ghost fault = { entity_fault };

@@ -5,7 +5,7 @@
 
 mod actions;
 mod entities;
-mod from_json;
 mod parts;
+mod reading;
 
-pub use from_json::FromJson;
+pub use reading::ReadDeclaration;

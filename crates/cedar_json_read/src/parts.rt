@@ -9,7 +9,7 @@ ghost use Rattle.cedar_json_types.specs.Types.{part_fault};
 ghost use Rattle.cedar_json_types.specs.declared.keyed.KeySet.TheVariants as set;
 ghost use Rattle.cedar_json_read.specs.Declarations.{IsShape, ShapeAt};
 
-use crate::from_json::FromJson;
+use crate::reading::ReadDeclaration;
 use cedar_data::Out;
 use cedar_fragment::{AttributesOrContext, RawName};
 use cedar_json_fault::JsonDeserializationError;
@@ -47,7 +47,7 @@ pub(crate) fn shape_at(
 }
 
 /// What the value has the shape of, and nothing for `null`.
-fn unless_null<T: FromJson + Drop>(
+fn unless_null<T: ReadDeclaration + Drop>(
     alloc: Global,
     value: &Value,
 ) -> Out<Option<T>, JsonDeserializationError>
@@ -65,7 +65,7 @@ fn unless_null<T: FromJson + Drop>(
 }
 
 /// The member at the key, where it is there and not `null`.
-pub(crate) fn if_not_null<T: FromJson + Drop>(
+pub(crate) fn if_not_null<T: ReadDeclaration + Drop>(
     alloc: Global,
     value: &Value,
     key: &str,

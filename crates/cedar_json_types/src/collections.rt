@@ -5,7 +5,7 @@ ghost use Rattle.serde_json.specs.View.{view, items_view, members_view};
 ghost use Rattle.cedar_json_types.specs.Faults.{items_fault, array_fault, members_fault, map_fault, entry_fault};
 ghost use Rattle.cedar_json_types.specs.Shapes.{EachItem, ArrayOf, MapMembers, MapOf, Entry};
 
-use crate::from_json::{FromJson, JsonKey, MayBeAbsent};
+use crate::reading::{JsonKey, MayBeAbsent, ReadPart};
 use crate::refusing::{under, under_place, wrong_type};
 use cedar_data::{Items, Map, Out};
 use cedar_json_fault::{JsonDeserializationError, JsonKind};
@@ -14,7 +14,7 @@ use std::alloc::Global;
 
 /// What the items have the shapes of.
 #[tactic(auto, using(crate::proofs::ItemLoops::reads_items))]
-fn read_items<T: FromJson + Drop>(
+fn read_items<T: ReadPart + Drop>(
     alloc: Global,
     items: &Vec<Value>,
 ) -> Out<Items<T>, JsonDeserializationError>
@@ -32,7 +32,7 @@ fn read_items<T: FromJson + Drop>(
     Ok(read)
 }
 
-impl<T: FromJson + Drop> FromJson for Items<T> {
+impl<T: ReadPart + Drop> ReadPart for Items<T> {
     ghost shapes = { ArrayOf T.shapes };
 
     ghost fault = { array_fault T.fault };
@@ -45,7 +45,7 @@ impl<T: FromJson + Drop> FromJson for Items<T> {
     }
 }
 
-impl<T: FromJson + Drop> MayBeAbsent for Items<T> {
+impl<T: ReadPart + Drop> MayBeAbsent for Items<T> {
     ghost absent = { λ vs. vs ≡ [] };
 
     fn when_absent(alloc: Global) -> Items<T> {
@@ -54,7 +54,7 @@ impl<T: FromJson + Drop> MayBeAbsent for Items<T> {
 }
 
 /// The entry that a member is.
-fn read_entry<K: JsonKey + Drop, V: FromJson + Drop>(
+fn read_entry<K: JsonKey + Drop, V: ReadPart + Drop>(
     alloc: Global,
     key: &str,
     value: &Value,
@@ -70,7 +70,7 @@ fn read_entry<K: JsonKey + Drop, V: FromJson + Drop>(
 
 /// The map of the entries that the members are.
 #[tactic(auto, using(crate::proofs::MemberLoops::reads_members))]
-fn read_members<K: Ord + JsonKey + Drop, V: FromJson + Drop>(
+fn read_members<K: Ord + JsonKey + Drop, V: ReadPart + Drop>(
     alloc: Global,
     members: &Members<String, Value>,
 ) -> Out<Map<K, V>, JsonDeserializationError>
@@ -86,7 +86,7 @@ fn read_members<K: Ord + JsonKey + Drop, V: FromJson + Drop>(
     Ok(read)
 }
 
-impl<K: Ord + JsonKey + Drop, V: FromJson + Drop> FromJson for Map<K, V> {
+impl<K: Ord + JsonKey + Drop, V: ReadPart + Drop> ReadPart for Map<K, V> {
     ghost shapes = { MapOf K.cmp (Entry K.named V.shapes) };
 
     ghost fault = { map_fault (entry_fault K.key_fault V.fault) };
@@ -99,7 +99,7 @@ impl<K: Ord + JsonKey + Drop, V: FromJson + Drop> FromJson for Map<K, V> {
     }
 }
 
-impl<K: Ord + JsonKey + Drop, V: FromJson + Drop> MayBeAbsent for Map<K, V> {
+impl<K: Ord + JsonKey + Drop, V: ReadPart + Drop> MayBeAbsent for Map<K, V> {
     ghost absent = { λ m. m ≡ [] };
 
     fn when_absent(alloc: Global) -> Map<K, V> {

@@ -5,7 +5,7 @@ ghost use Rattle.serde_json.specs.View.{view};
 ghost use Rattle.cedar_json_types.specs.Faults.{needs, allows, unless_null as null_fault};
 ghost use Rattle.cedar_json_types.specs.Shapes.{At, MayHave, Nothing, Present, OrNull};
 
-use crate::from_json::{FromJson, MayBeAbsent};
+use crate::reading::{MayBeAbsent, ReadPart};
 use crate::refusing::{missing, under};
 use cedar_data::Out;
 use cedar_json_fault::JsonDeserializationError;
@@ -13,7 +13,7 @@ use serde_json::Value;
 use std::alloc::Global;
 
 /// The member at the key, which has to be there.
-pub fn needed<T: FromJson + Drop>(
+pub fn needed<T: ReadPart + Drop>(
     alloc: Global,
     value: &Value,
     key: &str,
@@ -45,7 +45,7 @@ pub fn unless_absent<T: MayBeAbsent + Drop>(
 }
 
 /// What the value has the shape of, as one that is there.
-fn present<T: FromJson + Drop>(
+fn present<T: ReadPart + Drop>(
     alloc: Global,
     value: &Value,
 ) -> Out<Option<T>, JsonDeserializationError>
@@ -58,7 +58,7 @@ fn present<T: FromJson + Drop>(
 }
 
 /// The member at the key, where it is there.
-pub fn if_there<T: FromJson + Drop>(
+pub fn if_there<T: ReadPart + Drop>(
     alloc: Global,
     value: &Value,
     key: &str,
@@ -74,7 +74,7 @@ pub fn if_there<T: FromJson + Drop>(
 }
 
 /// What the value has the shape of, and nothing for `null`.
-fn unless_null<T: FromJson + Drop>(
+fn unless_null<T: ReadPart + Drop>(
     alloc: Global,
     value: &Value,
 ) -> Out<Option<T>, JsonDeserializationError>
@@ -92,7 +92,7 @@ fn unless_null<T: FromJson + Drop>(
 }
 
 /// The member at the key, where it is there and not `null`.
-pub fn if_not_null<T: FromJson + Drop>(
+pub fn if_not_null<T: ReadPart + Drop>(
     alloc: Global,
     value: &Value,
     key: &str,

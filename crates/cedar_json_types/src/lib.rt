@@ -5,18 +5,18 @@
 
 mod collections;
 mod fields;
-mod from_json;
 mod keyed;
 mod names;
 mod notes;
+mod reading;
 mod refusing;
 mod types;
 mod words;
 
 pub use fields::{if_not_null, if_there, needed, unless_absent};
-pub use from_json::{FromJson, JsonKey, MayBeAbsent};
 pub use keyed::{KeySet, check_keys, refuse_key};
 pub use names::{read_id, read_reference, reference_of};
+pub use reading::{JsonKey, MayBeAbsent, ReadPart};
 pub use refusing::{kind_of, missing, refuse, under, under_place, unknown, wrong_type};
 pub use types::{flag_at, read_outer_type};
 pub use words::{TypeWord, word_of};

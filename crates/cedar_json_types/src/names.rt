@@ -10,7 +10,7 @@ ghost use Rattle.cedar_json_types.specs.Parts.{reference_fault, id_fault, any_id
 ghost use Rattle.cedar_json_types.specs.Shapes.{IsText};
 ghost use Rattle.cedar_json_fault.specs.declared.json_fault.NameKind.TheVariants as what;
 
-use crate::from_json::{FromJson, JsonKey};
+use crate::reading::{JsonKey, ReadPart};
 use crate::refusing::{refuse, wrong_type};
 use cedar_data::{Failure, Out, Text};
 use cedar_json_fault::{JsonDeserializationError, JsonFault, JsonKind, NameKind};
@@ -20,7 +20,7 @@ use cedar_written::{CommonTypeId, RawName};
 use serde_json::Value;
 use std::alloc::Global;
 
-impl FromJson for Text {
+impl ReadPart for Text {
     ghost shapes = { IsText };
 
     ghost fault = { in_text any_text };
@@ -92,7 +92,7 @@ pub fn read_reference(
     reference_of(alloc, text, what)
 }
 
-impl FromJson for RawName {
+impl ReadPart for RawName {
     ghost shapes = { IsName };
 
     ghost fault = { in_text (reference_fault what.Name) };

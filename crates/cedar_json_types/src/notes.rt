@@ -7,7 +7,7 @@ ghost use Rattle.cedar_json_types.specs.Faults.{members_fault, entry_fault};
 ghost use Rattle.cedar_json_types.specs.Parts.{any_id_fault, annotation_fault, annotations_fault, AreAnnotations, IdentifiesAny, IsAnnotation, IsNote, NoAnnotations};
 ghost use Rattle.cedar_json_types.specs.Shapes.{Entry, MapMembers};
 
-use crate::from_json::{FromJson, JsonKey, MayBeAbsent};
+use crate::reading::{JsonKey, MayBeAbsent, ReadPart};
 use crate::refusing::{under, wrong_type};
 use cedar_data::{Out, Text};
 use cedar_json_fault::{JsonDeserializationError, JsonKind};
@@ -34,7 +34,7 @@ fn read_note(alloc: Global, value: &Value) -> Out<Text, JsonDeserializationError
     }
 }
 
-impl FromJson for Annotation {
+impl ReadPart for Annotation {
     ghost shapes = { IsAnnotation };
 
     ghost fault = { annotation_fault };
@@ -78,7 +78,7 @@ fn read_members(
     Ok(read)
 }
 
-impl FromJson for Annotations {
+impl ReadPart for Annotations {
     ghost shapes = { AreAnnotations };
 
     ghost fault = { annotations_fault };

@@ -18,9 +18,9 @@ ghost use Rattle.std.specs.Cmp.Lexicographic.{slice_cmp};
 ghost use Rattle.std.specs.Ordering.{nat_cmp};
 
 use crate::fields::{needed, unless_absent};
-use crate::from_json::FromJson;
 use crate::keyed::{KeySet, check_keys, refuse_key};
 use crate::names::{read_id, read_reference, reference_of};
+use crate::reading::ReadPart;
 use crate::refusing::{missing, refuse, under, wrong_type};
 use crate::words::{TypeWord, word_of};
 use cedar_data::{Boxed, Map, Out, Text};
@@ -407,7 +407,7 @@ pub fn read_outer_type(
     read_part(alloc, value, set, 129)
 }
 
-impl FromJson for SchemaType<RawName> {
+impl ReadPart for SchemaType<RawName> {
     ghost shapes = { Part 129 set.Type };
 
     ghost fault = { part_fault 129 set.Type };
@@ -420,7 +420,7 @@ impl FromJson for SchemaType<RawName> {
     }
 }
 
-impl FromJson for TypeOfAttribute<RawName> {
+impl ReadPart for TypeOfAttribute<RawName> {
     ghost shapes = { AttributeShape (Part 129 set.Attribute) };
 
     ghost fault = { attribute_fault (part_fault 129 set.Attribute) };

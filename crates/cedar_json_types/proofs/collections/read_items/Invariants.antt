@@ -5,4 +5,4 @@ use Rattle.cedar_json_types.proofs.collections.read_items.Given as goal
 
 -- the items so far are read, and none had a fault
 abbrev pub invariant-loop-item : goal.invariant-loop-item
-invariant-loop-item g l = ReadsItems g.T.FromJson.shapes g.T.FromJson.fault l.items.items (drop l.item-index l.item-items) l.place l.read × (l.place ≡ l.item-index)
+invariant-loop-item g l = ReadsItems g.T.ReadPart.shapes g.T.ReadPart.fault l.items.items (drop l.item-index l.item-items) l.place l.read × (l.place ≡ l.item-index)

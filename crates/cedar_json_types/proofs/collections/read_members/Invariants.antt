@@ -6,4 +6,4 @@ use Rattle.cedar_json_types.proofs.collections.read_members.Given as goal
 
 -- the members so far are read, and none had a fault
 abbrev pub invariant-loop-key : goal.invariant-loop-key
-invariant-loop-key g l = ReadsMembers g.K.Ord.cmp (Entry g.K.JsonKey.named g.V.FromJson.shapes) (entry_fault g.K.JsonKey.key_fault g.V.FromJson.fault) l.members.entries l.key-iterator l.read
+invariant-loop-key g l = ReadsMembers g.K.Ord.cmp (Entry g.K.JsonKey.named g.V.ReadPart.shapes) (entry_fault g.K.JsonKey.key_fault g.V.ReadPart.fault) l.members.entries l.key-iterator l.read

@@ -10,8 +10,8 @@ use cedar_json_fault::JsonDeserializationError;
 use serde_json::Value;
 use std::alloc::Global;
 
-/// What a JSON value may have the shape of.
-pub trait FromJson: Sized {
+/// A part of a schema that a JSON value may have the shape of.
+pub trait ReadPart: Sized {
     /// The value has the shape of this.
     ghost shapes: { Data → Self → Type 0 };
 
@@ -26,7 +26,7 @@ pub trait FromJson: Sized {
 }
 
 /// What an absent member of an object may stand for.
-pub trait MayBeAbsent: FromJson {
+pub trait MayBeAbsent: ReadPart {
     /// An absent member stands for this.
     ghost absent: { Self → Type 0 };
 

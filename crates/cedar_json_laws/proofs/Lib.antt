@@ -1,0 +1,9 @@
+-- SPDX-License-Identifier: Apache-2.0
+pub mod CleanDeclarations
+pub mod CleanParts
+pub mod CleanTypes
+pub mod CleanValues
+pub mod OnceDeclarations
+pub mod OnceParts
+pub mod OnceTypes
+pub mod OnceValues
