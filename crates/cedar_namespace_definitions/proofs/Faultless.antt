@@ -2,7 +2,12 @@
 -- First faults of lists in a row, and loops that stop at the first item with a fault.
 use Rattle.std.proofs.Common.{◌≡◌, List, [], ◌∷◌, ◌++◌, sym, ap, ◌∙◌}
 use Rattle.std.specs.List.{flat_map}
+use Rattle.std.specs.declared.result.Result.{Result}
+use Rattle.std.specs.declared.result.Result.TheVariants.{Ok, Err}
+use Rattle.cedar_data.specs.Answers.{IfRefused}
 use Rattle.cedar_data.specs.Firsts.{IsFirst}
+use Rattle.cedar_data.specs.declared.memory.Failure.{Failure}
+use Rattle.cedar_data.specs.declared.memory.Failure.TheVariants.{Refused, NoMemory}
 
 module _ {A : Type 0} where
   -- the first of a list is the first of it with others behind it
@@ -42,5 +47,12 @@ module _ {E R : Type 0} where
   pub Faultless-refused : {faults : E → List R} {whole left rest : List E} (item : E) (e : R) → Faultless faults whole left → left ≡ item ∷ rest → IsFirst (faults item) e → IsFirst (flat_map faults whole) e
   Faultless-refused {faults} {rest = rest} item e sofar first f =
       (f.0 ++ flat_map faults rest, sofar.is ∙ ap (flat_map faults) first ∙ ap (λ l. l ++ flat_map faults rest) f.1)
+
+  -- the step of the next item is refused with its first fault: that is the first of all
+  pub Faultless-refuses : {T F : Type 0} {faults : E → List R} {whole left rest : List E} (item : E) (told : F → R) (result : Result T (Failure F)) → Faultless faults whole left → left ≡ item ∷ rest
+      → IfRefused result (λ e. IsFirst (faults item) (told e)) → IfRefused result (λ e. IsFirst (flat_map faults whole) (told e))
+  Faultless-refuses item told (Ok value) sofar first refused = refused
+  Faultless-refuses item told (Err (Refused e)) sofar first refused = Faultless-refused item (told e) sofar first refused
+  Faultless-refuses item told (Err NoMemory) sofar first refused = refused
 
 pub ruleset faultless = (Faultless-start, Faultless-next, Faultless-end, Faultless-refused)

@@ -8,7 +8,7 @@ use Rattle.std.specs.declared.cmp.Ordering.{Ordering}
 use Rattle.std.specs.declared.result.Result.{Result}
 use Rattle.std.specs.declared.result.Result.TheVariants.{Ok, Err}
 use Rattle.cedar_data.specs.Sets.{set_of}
-use Rattle.cedar_names.specs.Names.{internal_cmp, internal_of}
+use Rattle.cedar_names.specs.Names.{internal_of}
 use Rattle.cedar_names.specs.declared.id.UnreservedId.{UnreservedId}
 use Rattle.cedar_names.specs.declared.internal_name.InternalName.{InternalName}
 use Rattle.cedar_names.specs.declared.name.Name.{Name}
@@ -99,15 +99,6 @@ entity_in ns e = (entity_name ns e, entity_made ns e.1)
 -- its place, where it has one
 abbrev pub entity_place : Option InternalName → UnreservedId × EntityType RawName → List (InternalName × Loc)
 entity_place ns e = entry_of (entity_name ns e) e.1.loc
-
--- an entity type of this name, with its place where it has one, is put to others
-pub record Puts (old new : EntityTypesDef ConditionalName) (name : InternalName) (fragment : EntityTypeFragment ConditionalName) (place : Option Loc) : Type 0 where
-  pub defs : with_keys entity_key new.defs ≡ put_entries internal_cmp (with_keys entity_key old.defs) ((name, fragment) ∷ [])
-  pub locs : with_keys entity_key new.locs ≡ put_entries internal_cmp (with_keys entity_key old.locs) (entry_of name place)
-
--- an entity type of a namespace is put to others
-abbrev pub Declares : Option InternalName → EntityTypesDef ConditionalName → EntityTypesDef ConditionalName → UnreservedId × EntityType RawName → Type 0
-Declares ns old new e = Puts old new (entity_in ns e).0 (entity_in ns e).1 e.1.loc
 
 -- ---- actions
 
