@@ -1,4 +1,5 @@
 -- SPDX-License-Identifier: Apache-2.0
+pub mod ActionLoops
 pub mod Defines
 pub mod Faultless
 pub mod Loops
