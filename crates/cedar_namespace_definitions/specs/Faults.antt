@@ -92,13 +92,17 @@ entity_faults ns e = reserved_in ns (components (name_at ns e.0 e.1.loc))
 
 -- ---- namespaces and fragments
 
+-- what may be wrong with declarations as a whole
+abbrev pub declaration_faults : ActionBehavior → NamespaceDefinition RawName over_raw → List Refusal
+declaration_faults behavior d = action_types d.entity_types ++ prohibited behavior (with_attributes d.actions)
+
+-- with each action, and then with each entity type
+abbrev pub each_fault : Option InternalName → NamespaceDefinition RawName over_raw → List Refusal
+each_fault ns d = flat_map (action_faults ns) d.actions ++ flat_map (entity_faults ns) d.entity_types
+
 -- the faults of the declarations of a namespace
 abbrev pub definition_faults : ActionBehavior → Option InternalName → NamespaceDefinition RawName over_raw → List Refusal
-definition_faults behavior ns d =
-    action_types d.entity_types
-    ++ (prohibited behavior (with_attributes d.actions)
-    ++ (flat_map (action_faults ns) d.actions
-    ++ flat_map (entity_faults ns) d.entity_types))
+definition_faults behavior ns d = declaration_faults behavior d ++ each_fault ns d
 
 -- those of a fragment: of each namespace, in order
 abbrev pub fragment_faults : ActionBehavior → Fragment RawName over_raw → List Refusal

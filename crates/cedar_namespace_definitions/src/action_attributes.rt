@@ -53,7 +53,7 @@ fn value_error(alloc: Global, uid: &EntityUID, fault: ValueFault) -> Mem<SchemaE
 }
 
 /// The types of the attributes of an action; refused with the first fault in them.
-pub fn types_in(
+pub(crate) fn types_in(
     alloc: Global,
     uid: &EntityUID,
     attributes: &Option<ValueMap>,
@@ -100,7 +100,7 @@ fn refuse_attributes(ids: Items<Text>) -> Out<(), SchemaError>
 }
 
 /// Where attributes are prohibited, refused with all actions that have some.
-pub fn check_attributes(
+pub(crate) fn check_attributes(
     alloc: Global,
     action_behavior: ActionBehavior,
     actions: &Map<Text, ActionType<RawName>>,

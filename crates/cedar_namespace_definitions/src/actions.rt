@@ -190,7 +190,7 @@ fn declare_action(
 
 /// The actions under their ids in the namespace, in order; refused with the first fault.
 #[tactic(auto, using(crate::proofs::ActionLoops::actions, crate::proofs::Faultless::faultless))]
-pub fn actions_in(
+pub(crate) fn actions_in(
     alloc: Global,
     namespace: Option<&InternalName>,
     actions: &Map<Text, ActionType<RawName>>,

@@ -31,7 +31,7 @@ fn common_type_in(
 
 /// The common types under their full names in the namespace, in order.
 #[tactic(auto, using(crate::proofs::Loops::common_types))]
-pub fn common_types_in(
+pub(crate) fn common_types_in(
     alloc: Global,
     namespace: Option<&InternalName>,
     common_types: Map<CommonTypeId, CommonType<RawName>>,

@@ -165,7 +165,7 @@ fn declare_entity_type(
 
 /// The entity types under their full names in the namespace, in order; refused with the first fault.
 #[tactic(auto, using(crate::proofs::Loops::entity_types, crate::proofs::Faultless::faultless))]
-pub fn entity_types_in(
+pub(crate) fn entity_types_in(
     alloc: Global,
     namespace: Option<&InternalName>,
     entity_types: &Map<UnreservedId, EntityType<RawName>>,

@@ -17,7 +17,7 @@ use cedar_written::type_or_action;
 use std::alloc::Global;
 
 /// The name of an identifier in the namespace, at this place.
-pub fn name_at(
+pub(crate) fn name_at(
     alloc: Global,
     namespace: Option<&InternalName>,
     id: UnreservedId,
@@ -43,7 +43,7 @@ fn entity_type(name: InternalName) -> Out<EntityType, SchemaError>
 
 /// The entity type of an identifier in the namespace, at this place; refused where the namespace has `__cedar`.
 #[tactic(auto, using(crate::proofs::Reserved::reserved))]
-pub fn entity_type_at(
+pub(crate) fn entity_type_at(
     alloc: Global,
     namespace: Option<&InternalName>,
     id: UnreservedId,
@@ -60,7 +60,7 @@ pub fn entity_type_at(
 
 /// The action of a text in the namespace, at this place; refused where the namespace has `__cedar`.
 #[tactic(auto, using(crate::proofs::Reserved::reserved))]
-pub fn action_at(
+pub(crate) fn action_at(
     alloc: Global,
     namespace: Option<&InternalName>,
     id: Text,
