@@ -19,7 +19,8 @@ use std::alloc::Global;
 
 /// What a schema, as it is written, makes definitions of.
 pub trait FromSchemaFragment: Sized {
-    /// The definitions of the namespaces of the schema.
+    /// The definitions of the namespaces of the schema. Refused with the first fault of the first namespace that has
+    /// one; where `action_behavior` prohibits them, attributes of actions are one.
     fn from_schema_fragment(
         alloc: Global,
         fragment: Fragment<RawName>,

@@ -1,5 +1,6 @@
 // SPDX-License-Identifier: Apache-2.0
-//! The definitions of namespaces, made from the declarations of a schema as they are written, and what may be wrong with them.
+//! The definitions of namespaces, made from the declarations of a schema as they are written, and what may be wrong
+//! with these.
 #![tactic(auto)]
 
 mod action_attributes;

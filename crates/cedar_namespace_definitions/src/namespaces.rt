@@ -22,7 +22,8 @@ use std::alloc::Global;
 
 /// What the declarations of a namespace, as they are written, make a definition of.
 pub trait FromNamespaceDefinition: Sized {
-    /// The definition of the declarations of the namespace.
+    /// The definition of the declarations of a namespace of this full name, none for the unnamed one. Refused with the
+    /// first fault of the declarations; where `action_behavior` prohibits them, attributes of actions are one.
     fn from_namespace_definition(
         alloc: Global,
         namespace: Option<InternalName>,
@@ -72,7 +73,8 @@ fn common_types_of(
     common_types_in(alloc, namespace, copy)
 }
 
-/// The entity types and the actions of the namespace; refused with the first fault of an action, else of an entity type.
+/// The entity types and the actions of the namespace; refused with the first fault of an action, else of an entity
+/// type.
 #[tactic(auto, using(crate::proofs::Faultless::firsts))]
 fn types_and_actions(
     alloc: Global,
@@ -108,7 +110,8 @@ fn namespace_copied(alloc: Global, namespace: Option<&InternalName>) -> Mem<Opti
     }
 }
 
-/// The definition of a namespace that has no faults as a whole; refused with the first fault of one of its declarations.
+/// The definition of a namespace whose declarations have no fault as a whole; refused with the first fault of one of
+/// them.
 fn each_defined(
     alloc: Global,
     namespace: Option<&InternalName>,
