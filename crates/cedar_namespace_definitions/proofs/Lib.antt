@@ -1,0 +1,9 @@
+-- SPDX-License-Identifier: Apache-2.0
+pub mod ActionLoops
+pub mod Defines
+pub mod Faultless
+pub mod Loops
+pub mod NameOrders
+pub mod Reserved
+pub mod Sorting
+pub mod Sure

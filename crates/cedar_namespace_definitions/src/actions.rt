@@ -1,0 +1,207 @@
+// SPDX-License-Identifier: Apache-2.0
+ghost use Rattle.std.specs.Prelude.{◌≡◌, [], map, unwrap_or, IfOk, OnOk};
+ghost use Rattle.std.specs.BTreeMap.{insert_entry};
+ghost use Rattle.std.specs.List.{flat_map};
+ghost use Rattle.std.specs.Option.{option_copied};
+ghost use Rattle.cedar_data.specs.Answers.{IfRefused};
+ghost use Rattle.cedar_data.specs.Firsts.{IsFirst};
+ghost use Rattle.cedar_names.specs.Components.{components};
+ghost use Rattle.cedar_written.specs.Qualifying.{qualifying};
+ghost use Rattle.cedar_fragment.specs.ActionUids.{over_conditional, over_raw};
+ghost use Rattle.cedar_fragment.specs.Definitions.{through_action};
+ghost use Rattle.cedar_namespace_definitions.specs.Orders.{conditional_cmp};
+ghost use Rattle.cedar_schema_error.specs.Told.{told};
+ghost use Rattle.cedar_namespace_definitions.specs.Definitions.{action_in, action_made, application_in, context_in, no_values, parents_in, sure, types_in, with_keys};
+ghost use Rattle.cedar_namespace_definitions.specs.Faults.{action_faults};
+ghost use Rattle.cedar_namespace_definitions.specs.NamesIn.{action_at, action_key, action_key_cmp, action_type_in, reserved_in};
+
+use crate::action_attributes::types_in;
+use crate::names::action_at;
+use crate::sets::set_of;
+use cedar_data::{Dup, Items, Map, Mem, Out, Set, Text};
+use cedar_definitions::{ActionFragment, ActionsDef, ValidatorApplySpec};
+use cedar_fragment::{
+    ActionType, ApplySpec, AttributesOrContext, ConditionalName, RawName, RefName, SchemaType,
+    ValueMap,
+};
+use cedar_names::{EntityUID, InternalName};
+use cedar_schema_error::SchemaError;
+use cedar_text::Loc;
+use cedar_types::Attributes;
+use std::alloc::Global;
+
+/// The context of an action, and what it applies to, as sets.
+fn application_in<N: Ord + Drop>(
+    alloc: Global,
+    applies_to: Option<ApplySpec<N>>,
+) -> Mem<(SchemaType<N>, ValidatorApplySpec<N>)>
+    ensures context { IfOk result (λ made. made.0 ≡ context_in applies_to) }
+    ensures types { IfOk result (λ made. made.1 ≡ application_in N.cmp applies_to) }
+{
+    let Some(applies_to) = applies_to else {
+        let context = AttributesOrContext::empty(alloc).into_inner();
+        let applies_to = ValidatorApplySpec::new(Set::new(alloc), Set::new(alloc));
+        return Ok((context, applies_to));
+    };
+    let ApplySpec {
+        resource_types,
+        principal_types,
+        context,
+    } = applies_to;
+    let principals = set_of(alloc, principal_types)?;
+    let resources = set_of(alloc, resource_types)?;
+    let applies_to = ValidatorApplySpec::new(principals, resources);
+    Ok((context.into_inner(), applies_to))
+}
+
+/// The parents of an action, as a set.
+fn parents_in<K: Ord + Drop>(alloc: Global, parents: Option<Items<K>>) -> Mem<Set<K>>
+    ensures { IfOk result (λ made. made ≡ parents_in K.cmp parents) }
+{
+    match parents {
+        Some(parents) => set_of(alloc, parents),
+        None => Ok(Set::new(alloc)),
+    }
+}
+
+/// The values of the attributes of an action. It takes no memory.
+fn values_in(alloc: Global, attributes: Option<ValueMap>) -> ValueMap
+    ensures { result ≡ unwrap_or attributes no_values }
+{
+    match attributes {
+        Some(values) => values,
+        None => ValueMap::new(alloc),
+    }
+}
+
+/// An action with attributes of these types.
+fn action_made<N: RefName + Ord + Drop>(
+    alloc: Global,
+    attribute_types: Attributes,
+    action: ActionType<N>,
+) -> Mem<ActionFragment<N, N>>
+    ensures { IfOk result (λ made. made ≡ action_made N.cmp attribute_types action) }
+{
+    let ActionType {
+        attributes,
+        applies_to,
+        member_of,
+        annotations: _,
+        loc,
+    } = action;
+    let (context, applies_to) = application_in(alloc, applies_to)?;
+    let parents = parents_in(alloc, member_of)?;
+    Ok(ActionFragment {
+        context,
+        applies_to,
+        parents,
+        attribute_types,
+        attributes: values_in(alloc, attributes),
+        loc,
+    })
+}
+
+/// The id of an action of the namespace, at its place; refused where the namespace has `__cedar`.
+fn action_id(
+    alloc: Global,
+    namespace: Option<&InternalName>,
+    id: &Text,
+    action: &ActionType<RawName>,
+) -> Out<EntityUID, SchemaError>
+    ensures key { IfOk result (λ uid. action_key uid ≡ action_at (option_copied namespace.entry) id.now action.now.loc) }
+    ensures ok { IfOk result (λ _. reserved_in (option_copied namespace.entry) (components (action_type_in (option_copied namespace.entry))) ≡ []) }
+    ensures refused { IfRefused result (λ e. IsFirst
+        (reserved_in (option_copied namespace.entry) (components (action_type_in (option_copied namespace.entry)))) (told e)) }
+{
+    let loc = action.loc.dup(alloc)?;
+    let id = id.dup(alloc)?;
+    action_at(alloc, namespace, id, loc)
+}
+
+/// The id of an action of the namespace, and the types of its attributes; refused with the first fault.
+#[tactic(auto, using(crate::proofs::Faultless::firsts, crate::proofs::ActionLoops::ids), unfolding(crate::specs::Faults::action_faults))]
+fn action_head(
+    alloc: Global,
+    namespace: Option<&InternalName>,
+    id: &Text,
+    action: &ActionType<RawName>,
+) -> Out<(EntityUID, Attributes), SchemaError>
+    ensures key { IfOk result (λ made. action_key made.0 ≡ action_at (option_copied namespace.entry) id.now action.now.loc) }
+    ensures types { IfOk result (λ made. made.1 ≡ types_in action.now.attributes) }
+    ensures ok { IfOk result (λ _. action_faults (option_copied namespace.entry) (id.now, action.now) ≡ []) }
+    ensures refused { IfRefused result (λ e. IsFirst (action_faults (option_copied namespace.entry) (id.now, action.now)) (told e)) }
+{
+    let uid = action_id(alloc, namespace, id, action)?;
+    let types = types_in(alloc, &uid, &action.attributes)?;
+    Ok((uid, types))
+}
+
+/// What an action is, with what each name in it may stand for, and with attributes of these types.
+#[tactic(auto, using(crate::proofs::Sure::is_sure))]
+fn fragment_of(
+    alloc: Global,
+    namespace: Option<&InternalName>,
+    attribute_types: Attributes,
+    action: &ActionType<RawName>,
+) -> Mem<ActionFragment<ConditionalName, ConditionalName>>
+    ensures { IfOk result (λ made. made ≡ action_made conditional_cmp attribute_types
+        (sure (through_action over_raw over_conditional (qualifying (option_copied namespace.entry)) action.now))) }
+{
+    let copy = action.dup(alloc)?;
+    let action = copy.conditionally_qualify_type_references(alloc, namespace)?;
+    action_made(alloc, attribute_types, action)
+}
+
+/// Puts an action of this id to the others, with attributes of these types.
+fn put_action(
+    alloc: Global,
+    namespace: Option<&InternalName>,
+    made: &mut Map<EntityUID, ActionFragment<ConditionalName, ConditionalName>>,
+    uid: EntityUID,
+    attribute_types: Attributes,
+    action: &ActionType<RawName>,
+) -> Mem<()>
+    ensures { OnOk result (with_keys action_key made.new ≡ insert_entry action_key_cmp (with_keys action_key made.old) (action_key uid)
+        (action_made conditional_cmp attribute_types (sure (through_action over_raw over_conditional (qualifying (option_copied namespace.entry)) action.now)))) }
+{
+    let fragment = fragment_of(alloc, namespace, attribute_types, action)?;
+    made.put(uid, fragment)?;
+    Ok(())
+}
+
+/// Puts an action of the namespace to the others; refused with its first fault.
+#[tactic(auto, unfolding(crate::specs::Definitions::action_made_in))]
+fn declare_action(
+    alloc: Global,
+    namespace: Option<&InternalName>,
+    made: &mut Map<EntityUID, ActionFragment<ConditionalName, ConditionalName>>,
+    id: &Text,
+    action: &ActionType<RawName>,
+) -> Out<(), SchemaError>
+    ensures puts { OnOk result (with_keys action_key made.new ≡ insert_entry action_key_cmp (with_keys action_key made.old)
+        (action_in (option_copied namespace.entry) (id.now, action.now)).0 (action_in (option_copied namespace.entry) (id.now, action.now)).1) }
+    ensures ok { OnOk result (action_faults (option_copied namespace.entry) (id.now, action.now) ≡ []) }
+    ensures refused { IfRefused result (λ e. IsFirst (action_faults (option_copied namespace.entry) (id.now, action.now)) (told e)) }
+{
+    let (uid, types) = action_head(alloc, namespace, id, action)?;
+    put_action(alloc, namespace, made, uid, types, action)?;
+    Ok(())
+}
+
+/// The actions under their ids in the namespace, in order; refused with the first fault.
+#[tactic(auto, using(crate::proofs::ActionLoops::actions, crate::proofs::Faultless::faultless))]
+pub(crate) fn actions_in(
+    alloc: Global,
+    namespace: Option<&InternalName>,
+    actions: &Map<Text, ActionType<RawName>>,
+) -> Out<ActionsDef<ConditionalName, ConditionalName>, SchemaError>
+    ensures made { IfOk result (λ made. with_keys action_key made.actions ≡ map (action_in (option_copied namespace.entry)) actions.now) }
+    ensures ok { IfOk result (λ _. flat_map (action_faults (option_copied namespace.entry)) actions.now ≡ []) }
+    ensures refused { IfRefused result (λ e. IsFirst (flat_map (action_faults (option_copied namespace.entry)) actions.now) (told e)) }
+{
+    let mut made = Map::new(alloc);
+    for (id, action) in actions.iter() {
+        declare_action(alloc, namespace, &mut made, id, action)?;
+    }
+    Ok(ActionsDef { actions: made })
+}

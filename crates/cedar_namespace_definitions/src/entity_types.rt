@@ -1,0 +1,183 @@
+// SPDX-License-Identifier: Apache-2.0
+ghost use Rattle.std.specs.Prelude.{◌≡◌, [], ◌∷◌, IfOk, OnOk};
+ghost use Rattle.std.specs.BTreeMap.{insert_entry};
+ghost use Rattle.std.specs.List.{flat_map};
+ghost use Rattle.std.specs.Option.{option_copied};
+ghost use Rattle.cedar_data.specs.Answers.{IfRefused};
+ghost use Rattle.cedar_data.specs.Firsts.{IsFirst};
+ghost use Rattle.cedar_names.specs.Names.{internal_cmp};
+ghost use Rattle.cedar_schema_error.specs.Told.{told};
+ghost use Rattle.cedar_namespace_definitions.specs.Definitions.{AreEntityTypes, entity_in, entity_made, entity_name, entity_place, entry_of, kind_made, put_entries, standard_made, with_keys};
+ghost use Rattle.cedar_namespace_definitions.specs.Faults.{entity_faults};
+ghost use Rattle.cedar_namespace_definitions.specs.NamesIn.{entity_key};
+
+use crate::names::entity_type_at;
+use crate::sets::set_of;
+use cedar_data::{Dup, Map, Mem, Out};
+use cedar_definitions::{EntityTypeFragment, EntityTypesDef};
+use cedar_fragment::{ConditionalName, EntityType, EntityTypeKind, RawName, StandardEntityType};
+use cedar_names::{InternalName, UnreservedId};
+use cedar_schema_error::SchemaError;
+use cedar_text::Loc;
+use std::alloc::Global;
+
+/// A standard entity type, its parents as a set.
+fn standard_made<N: Ord + Drop>(
+    alloc: Global,
+    entity_type: StandardEntityType<N>,
+) -> Mem<EntityTypeFragment<N>>
+    ensures { IfOk result (λ made. made ≡ standard_made N.cmp entity_type) }
+{
+    let StandardEntityType {
+        member_of_types,
+        shape,
+        tags,
+    } = entity_type;
+    let parents = set_of(alloc, member_of_types)?;
+    Ok(EntityTypeFragment::Standard {
+        attributes: shape,
+        parents,
+        tags,
+    })
+}
+
+/// What kind of entity type it is, its parents as a set.
+fn kind_made<N: Ord + Drop>(alloc: Global, kind: EntityTypeKind<N>) -> Mem<EntityTypeFragment<N>>
+    ensures { IfOk result (λ made. made ≡ kind_made N.cmp kind) }
+{
+    match kind {
+        EntityTypeKind::Standard(entity_type) => standard_made(alloc, entity_type),
+        EntityTypeKind::Enum { choices } => Ok(EntityTypeFragment::Enum(choices)),
+    }
+}
+
+/// What an entity type is, with what each name in it may stand for.
+#[tactic(auto, using(crate::proofs::Sure::is_sure), unfolding(crate::specs::Definitions::entity_made))]
+fn entity_made(
+    alloc: Global,
+    namespace: Option<&InternalName>,
+    entity_type: &EntityType<RawName>,
+) -> Mem<EntityTypeFragment<ConditionalName>>
+    ensures { IfOk result (λ made. made ≡ entity_made (option_copied namespace.entry) entity_type.now) }
+{
+    let copy = entity_type.dup(alloc)?;
+    let EntityType {
+        kind,
+        annotations: _,
+        loc: _,
+    } = copy.conditionally_qualify_type_references(alloc, namespace)?;
+    kind_made(alloc, kind)
+}
+
+/// The name of an entity type in the namespace, at its place; refused where the namespace has `__cedar`.
+#[tactic(auto, unfolding(crate::specs::Faults::entity_faults))]
+fn entity_name(
+    alloc: Global,
+    namespace: Option<&InternalName>,
+    id: &UnreservedId,
+    entity_type: &EntityType<RawName>,
+) -> Out<cedar_names::EntityType, SchemaError>
+    ensures name { IfOk result (λ name. entity_key name ≡ entity_name (option_copied namespace.entry) (id.now, entity_type.now)) }
+    ensures ok { IfOk result (λ _. entity_faults (option_copied namespace.entry) (id.now, entity_type.now) ≡ []) }
+    ensures refused { IfRefused result (λ e. IsFirst (entity_faults (option_copied namespace.entry) (id.now, entity_type.now)) (told e)) }
+{
+    let loc = place_of(alloc, entity_type)?;
+    let id = id.dup(alloc)?;
+    entity_type_at(alloc, namespace, id, loc)
+}
+
+/// A copy of the place of an entity type, where it has one.
+fn place_of<N>(alloc: Global, entity_type: &EntityType<N>) -> Mem<Option<Loc>>
+    ensures { IfOk result (λ loc. loc ≡ entity_type.now.loc) }
+{
+    entity_type.loc.dup(alloc)
+}
+
+/// Puts the place of an entity type to the others, where it has one.
+fn put_place(
+    alloc: Global,
+    locs: &mut Map<cedar_names::EntityType, Loc>,
+    name: &cedar_names::EntityType,
+    loc: Option<Loc>,
+) -> Mem<()>
+    ensures { OnOk result (with_keys entity_key locs.new
+        ≡ put_entries internal_cmp (with_keys entity_key locs.old) (entry_of (entity_key name.now) loc)) }
+{
+    if let Some(loc) = loc {
+        let name = name.dup(alloc)?;
+        locs.put(name, loc)?;
+    }
+    Ok(())
+}
+
+/// Puts what an entity type of this name is to the others, with its place where it has one.
+fn put_placed<V: Drop>(
+    alloc: Global,
+    defs: &mut Map<cedar_names::EntityType, V>,
+    locs: &mut Map<cedar_names::EntityType, Loc>,
+    name: cedar_names::EntityType,
+    placed: (V, Option<Loc>),
+) -> Mem<()>
+    ensures defs { OnOk result (with_keys entity_key defs.new ≡ insert_entry internal_cmp (with_keys entity_key defs.old) (entity_key name) placed.0) }
+    ensures locs { OnOk result (with_keys entity_key locs.new
+        ≡ put_entries internal_cmp (with_keys entity_key locs.old) (entry_of (entity_key name) placed.1)) }
+{
+    let (value, loc) = placed;
+    put_place(alloc, locs, &name, loc)?;
+    defs.put(name, value)?;
+    Ok(())
+}
+
+/// What an entity type is, with its place where it has one.
+fn placed(
+    alloc: Global,
+    namespace: Option<&InternalName>,
+    entity_type: &EntityType<RawName>,
+) -> Mem<(EntityTypeFragment<ConditionalName>, Option<Loc>)>
+    ensures { IfOk result (λ made. made ≡ (entity_made (option_copied namespace.entry) entity_type.now, entity_type.now.loc)) }
+{
+    let loc = place_of(alloc, entity_type)?;
+    let fragment = entity_made(alloc, namespace, entity_type)?;
+    Ok((fragment, loc))
+}
+
+/// Puts an entity type of the namespace to the others; refused where the namespace has `__cedar`.
+fn declare_entity_type(
+    alloc: Global,
+    namespace: Option<&InternalName>,
+    defs: &mut Map<cedar_names::EntityType, EntityTypeFragment<ConditionalName>>,
+    locs: &mut Map<cedar_names::EntityType, Loc>,
+    id: &UnreservedId,
+    entity_type: &EntityType<RawName>,
+) -> Out<(), SchemaError>
+    ensures defs { OnOk result (with_keys entity_key defs.new ≡ put_entries internal_cmp (with_keys entity_key defs.old)
+        (entity_in (option_copied namespace.entry) (id.now, entity_type.now) ∷ [])) }
+    ensures locs { OnOk result (with_keys entity_key locs.new ≡ put_entries internal_cmp (with_keys entity_key locs.old)
+        (entity_place (option_copied namespace.entry) (id.now, entity_type.now))) }
+    ensures ok { OnOk result (entity_faults (option_copied namespace.entry) (id.now, entity_type.now) ≡ []) }
+    ensures refused { IfRefused result (λ e. IsFirst (entity_faults (option_copied namespace.entry) (id.now, entity_type.now)) (told e)) }
+{
+    let name = entity_name(alloc, namespace, id, entity_type)?;
+    let placed = placed(alloc, namespace, entity_type)?;
+    put_placed(alloc, defs, locs, name, placed)?;
+    Ok(())
+}
+
+/// The entity types under their full names in the namespace, in order; refused with the first fault.
+#[tactic(auto, using(crate::proofs::Loops::entity_types, crate::proofs::Faultless::faultless))]
+pub(crate) fn entity_types_in(
+    alloc: Global,
+    namespace: Option<&InternalName>,
+    entity_types: &Map<UnreservedId, EntityType<RawName>>,
+) -> Out<EntityTypesDef<ConditionalName>, SchemaError>
+    ensures made { IfOk result (λ made. AreEntityTypes (option_copied namespace.entry) entity_types.now made) }
+    ensures ok { IfOk result (λ _. flat_map (entity_faults (option_copied namespace.entry)) entity_types.now ≡ []) }
+    ensures refused { IfRefused result (λ e. IsFirst (flat_map (entity_faults (option_copied namespace.entry)) entity_types.now) (told e)) }
+{
+    let mut defs = Map::new(alloc);
+    let mut locs = Map::new(alloc);
+    for (id, entity_type) in entity_types.iter() {
+        declare_entity_type(alloc, namespace, &mut defs, &mut locs, id, entity_type)?;
+    }
+    Ok(EntityTypesDef { defs, locs })
+}
