@@ -1,7 +1,5 @@
 // SPDX-License-Identifier: Apache-2.0
 //! What parents, principals and resources miss.
-ghost use Rattle.std.specs.Prelude.{◌≡◌, IfOk};
-ghost use Rattle.cedar_declared.specs.Held.{names_of};
 ghost use Rattle.cedar_missing.specs.Undeclared.{missing_in_each, missing_in_name, missing_in_parent};
 
 use crate::found::{find_parent, find_target};

@@ -1,7 +1,6 @@
 // SPDX-License-Identifier: Apache-2.0
 //! The first reference of a type that means nothing declared. It is looked for without memory.
 ghost use Rattle.std.specs.Prelude.{◌≡◌, IfOk};
-ghost use Rattle.std.specs.List.{flat_map};
 ghost use Rattle.std.specs.Option.{option_copied};
 ghost use Rattle.cedar_declared.specs.Held.{names_of};
 ghost use Rattle.cedar_missing.specs.Undeclared.{first_undefined, missing_in_type, references_of_attributes, unless_found};
