@@ -2,4 +2,5 @@
 pub mod FoundTargets
 pub mod Gains
 pub mod Looked
+pub mod QualifiedNames
 pub mod Targeted

@@ -90,7 +90,8 @@ or_false true = refl
 or_false false = refl
 
 module _ (t : TypeNames) where
-  single_kept : (id : Id) → contains words_cmp (type_names t) (id_word id ∷ []) ≡ is_some (get id_cmp t.unqualified id)
+  -- a name of one component is one of the names where that is kept
+  pub single_kept : (id : Id) → contains words_cmp (type_names t) (id_word id ∷ []) ≡ is_some (get id_cmp t.unqualified id)
   single_kept id =
       list_any-append (is_at (words_cmp (id_word id ∷ []))) (single_names t.unqualified) (filter is_qualified (map components t.qualified))
       ∙ ap (λ b. list_any (is_at (words_cmp (id_word id ∷ []))) (single_names t.unqualified) || b) (any_single_qualified (id_word id) (map components t.qualified))

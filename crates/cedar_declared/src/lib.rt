@@ -6,6 +6,7 @@ mod all_defs;
 mod fully_qualify;
 mod gathered;
 mod laws;
+mod listed;
 mod resolve;
 mod resolving;
 mod type_names;

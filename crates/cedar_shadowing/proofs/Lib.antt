@@ -1,0 +1,8 @@
+-- SPDX-License-Identifier: Apache-2.0
+pub mod Indexed
+pub mod LeastActions
+pub mod LeastTypes
+pub mod LookedUp
+pub mod Phases
+pub mod Picked
+pub mod Shadowers

@@ -1,0 +1,47 @@
+// SPDX-License-Identifier: Apache-2.0
+ghost use Rattle.std.specs.Prelude.{IfOk};
+ghost use Rattle.cedar_data.specs.Answers.{IfRefused};
+ghost use Rattle.cedar_data.specs.Firsts.{AllPass, FirstRefused};
+ghost use Rattle.cedar_schema_error.specs.Told.{told};
+ghost use Rattle.cedar_declared.specs.Held.{names_of};
+ghost use Rattle.cedar_shadowing.specs.Shadowing.{ShadowPasses, ShadowRefuses, shadow_phases};
+
+use crate::actions::{action_shadowing, least_action};
+use crate::types::{least_type, type_shadowing};
+use cedar_data::{Failure, Out};
+use cedar_declared::AllDefs;
+use cedar_schema_error::SchemaError;
+use std::alloc::Global;
+
+/// Declared names that may shadow others.
+pub trait ShadowingChecks {
+    ghost use Rattle.cedar_declared.specs.Names.{Names};
+
+    /// The declared names.
+    ghost own: { Self → Names };
+
+    /// Refused where a declared type of a namespace, without `__cedar`, has the basename of a declared type without a
+    /// namespace: with the least such type that is shadowed, and the least that shadows it. Else refused likewise for
+    /// actions of one id.
+    fn rfc_70_shadowing_checks(&self, alloc: Global) -> Out<(), SchemaError>
+        ensures ok { IfOk result (λ _. AllPass (ShadowPasses (own self.now)) shadow_phases) }
+        ensures refused { IfRefused result (λ e. FirstRefused (ShadowPasses (own self.now)) (ShadowRefuses (own self.now)) shadow_phases (told e)) };
+}
+
+impl ShadowingChecks for AllDefs {
+    ghost own = { names_of };
+
+    #[tactic(auto, using(crate::proofs::Phases::phases))]
+    fn rfc_70_shadowing_checks(&self, alloc: Global) -> Out<(), SchemaError> {
+        if let Some(shadowing) = least_type(self) {
+            let error = type_shadowing(alloc, shadowing)?;
+            return Err(Failure::Refused(error));
+        }
+        match least_action(alloc, self)? {
+            None => Ok(()),
+            Some((shadowed, shadowing)) => {
+                Err(Failure::Refused(action_shadowing(shadowed, shadowing)))
+            }
+        }
+    }
+}
