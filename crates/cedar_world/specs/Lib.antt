@@ -3,3 +3,8 @@ pub mod Definitions
 pub mod DefinitionViews
 pub mod Worlds
 pub mod Descents
+pub mod Missing
+pub mod Undeclared
+pub mod Qualified
+pub mod Schemas
+pub mod Denotes

@@ -65,6 +65,29 @@ abbrev pub builtin_namespaces : Names → List (List ℕ) → List Namespace
 builtin_namespaces own extensions =
     of_common_types (map_of words_cmp (builtins extensions)) ∷ of_common_types (map_of words_cmp (aliases own extensions)) ∷ []
 
+-- the common types of namespaces in the order of their names
+abbrev pub common_types_in : List Namespace → List (FullName × Written NameReference)
+common_types_in all = map_of words_cmp (flat_map (λ ns. ns.common_types) all)
+
+-- the entity types of namespaces in the order of their names
+abbrev pub entity_types_in : List Namespace → List (FullName × EntityDefinition NameReference)
+entity_types_in all = map_of words_cmp (flat_map (λ ns. ns.entity_types) all)
+
+-- the actions of namespaces in the order of their ids
+abbrev pub actions_in : List Namespace → List (Uid × ActionDefinition NameReference ActionReference)
+actions_in all = map_of uid_cmp (flat_map (λ ns. ns.actions) all)
+
+-- the uses of types by entity types and actions: shapes, then types of tags, then contexts, each in order
+abbrev pub uses_by : List (FullName × EntityDefinition NameReference) → List (Uid × ActionDefinition NameReference ActionReference) → List (UsePlace × Written NameReference)
+uses_by types actions =
+    flat_map (λ e. map (λ t. (Shape e.0, t)) (shape_of e.1)) types
+    ++ flat_map (λ e. map (λ t. (Tags e.0, t)) (tags_of e.1)) types
+    ++ map (λ a. (Context a.0, a.1.context)) actions
+
+-- those of namespaces
+abbrev pub uses_in : List Namespace → List (UsePlace × Written NameReference)
+uses_in all = uses_by (entity_types_in all) (actions_in all)
+
 -- the namespaces that a caller defines, in order, and the words that name extension types
 pub record World : Type 0 where
   pub namespaces : List Namespace
@@ -85,15 +108,15 @@ module _ (W : World) where
 
   -- the common types in the order of their names
   abbrev pub common_types : List (FullName × Written NameReference)
-  common_types = map_of words_cmp (flat_map (λ ns. ns.common_types) all_namespaces)
+  common_types = common_types_in all_namespaces
 
   -- the entity types in the order of their names
   abbrev pub entity_types : List (FullName × EntityDefinition NameReference)
-  entity_types = map_of words_cmp (flat_map (λ ns. ns.entity_types) all_namespaces)
+  entity_types = entity_types_in all_namespaces
 
   -- the actions in the order of their ids
   abbrev pub actions : List (Uid × ActionDefinition NameReference ActionReference)
-  actions = map_of uid_cmp (flat_map (λ ns. ns.actions) all_namespaces)
+  actions = actions_in all_namespaces
 
   -- what names mean in types
   abbrev pub meanings : Meanings NameReference
@@ -101,10 +124,7 @@ module _ (W : World) where
 
   -- the uses of types: shapes, then types of tags, then contexts, each in the order of names
   abbrev pub uses : List (UsePlace × Written NameReference)
-  uses =
-      flat_map (λ e. map (λ t. (Shape e.0, t)) (shape_of e.1)) entity_types
-      ++ flat_map (λ e. map (λ t. (Tags e.0, t)) (tags_of e.1)) entity_types
-      ++ map (λ a. (Context a.0, a.1.context)) actions
+  uses = uses_in all_namespaces
 
   -- what is to be unfolded
   abbrev pub job : Job NameReference
