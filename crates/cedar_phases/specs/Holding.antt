@@ -1,6 +1,6 @@
 -- SPDX-License-Identifier: Apache-2.0
 -- The world of fragments, and what the code holds of it.
-use Rattle.std.specs.Prelude.{◌≡◌, List, [], map}
+use Rattle.std.specs.Prelude.{◌≡◌, List, [], ◌∷◌, map}
 use Rattle.std.specs.List.{flat_map}
 use Rattle.cedar_declared.specs.Held.{names_of}
 use Rattle.cedar_declared.specs.declared.all_defs.AllDefs.{AllDefs}
@@ -12,7 +12,13 @@ use Rattle.cedar_names.specs.Extensions.{extension_words}
 use Rattle.cedar_names.specs.declared.extensions.Extensions.{Extensions}
 use Rattle.cedar_qualified.specs.Agreeing.{AgreeingNames}
 use Rattle.cedar_world.specs.DefinitionViews.{namespace_in}
-use Rattle.cedar_world.specs.Worlds.{World, all_namespaces, names}
+use Rattle.cedar_data.specs.Firsts.{AllPass, FirstRefused}
+use Rattle.cedar_schema_error.specs.Refusals.{Refusal}
+use Rattle.cedar_sound.specs.Sound.{ActionCycles, Duplicates, Passes, Phase, References, RefusesAt, UndeclaredTypes, Unfolding}
+use Rattle.cedar_tables.specs.Outlines.{action_outline, action_outline_in, entity_outline, entity_outline_in, use_in}
+use Rattle.cedar_tables.specs.declared.outlines.Tables.{Tables}
+use Rattle.cedar_world.specs.DefinitionViews.{common_type_in}
+use Rattle.cedar_world.specs.Worlds.{World, actions, all_namespaces, common_types, entity_types, names, uses}
 use Rattle.cedar_written.specs.declared.conditional_name.ConditionalName.{ConditionalName}
 
 -- definitions whose references carry the names that they may stand for
@@ -31,3 +37,26 @@ pub record Holds (W : World) (all_defs : AllDefs) (definitions : List Definition
   pub names_agree : AgreeingNames (names_of all_defs) (names W)
   pub namespaces_are : map namespace_in definitions ≡ all_namespaces W
   pub extensions_are : extension_words extensions ≡ W.extensions
+
+-- what a world declares, taken apart
+pub record AreTables (W : World) (t : Tables) : Type 0 where
+  pub common_types_are : map common_type_in t.common_types ≡ common_types W
+  pub uses_are : map use_in t.uses ≡ uses W
+  pub entity_types_are : map entity_outline_in t.entity_types ≡ map entity_outline (entity_types W)
+  pub actions_are : map action_outline_in t.actions ≡ map action_outline (actions W)
+
+-- the phases on references and on names, and those after them
+abbrev pub early_phases : List Phase
+early_phases = References ∷ Duplicates ∷ []
+
+abbrev pub later_phases : List Phase
+later_phases = Unfolding ∷ ActionCycles ∷ UndeclaredTypes ∷ []
+
+module _ (W : World) where
+  -- these phases pass
+  abbrev pub AllPassed : List Phase → Type 0
+  AllPassed ps = AllPass (Passes W) ps
+
+  -- one of these phases refuses, and those before it pass
+  abbrev pub OneRefuses : List Phase → Refusal → Type 0
+  OneRefuses ps e = FirstRefused (Passes W) (RefusesAt W) ps e

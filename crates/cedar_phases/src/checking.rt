@@ -1,13 +1,12 @@
 // SPDX-License-Identifier: Apache-2.0
-ghost use Rattle.std.specs.Prelude.{◌≡◌, ◌⊎◌, None, Some, map, IfOk};
+ghost use Rattle.std.specs.Prelude.{◌≡◌, None, Some, IfOk};
 ghost use Rattle.cedar_data.specs.Answers.{IfRefused};
 ghost use Rattle.cedar_declared.specs.Held.{names_of};
 ghost use Rattle.cedar_definitions.specs.Structures.{definitions_of};
 ghost use Rattle.cedar_missing.specs.Undeclared.{missing_in_definition, missing_in_each, refusal_of};
 ghost use Rattle.cedar_names.specs.declared.extensions.Extensions.{Extensions};
-ghost use Rattle.cedar_phases.specs.Holding.{Holds};
+ghost use Rattle.cedar_phases.specs.Holding.{AllPassed, Holds, OneRefuses, early_phases};
 ghost use Rattle.cedar_schema_error.specs.Told.{told};
-ghost use Rattle.cedar_sound.specs.Sound.{Duplicates, Passes, References, RefusesAt};
 ghost use Rattle.cedar_world.specs.Worlds.{World};
 
 use crate::declaring::Fragment;
@@ -42,10 +41,8 @@ pub(crate) fn check_definitions(
     all_defs: &AllDefs,
     definitions: &Fragment,
 ) -> Out<(), SchemaError>
-    ensures references { IfOk result (λ _. (W : World) (X : Extensions) → Holds W all_defs.now (definitions_of definitions.now) X → Passes W References) }
-    ensures duplicates { IfOk result (λ _. (W : World) (X : Extensions) → Holds W all_defs.now (definitions_of definitions.now) X → Passes W Duplicates) }
-    ensures refused { IfRefused result (λ e. (W : World) (X : Extensions) → Holds W all_defs.now (definitions_of definitions.now) X
-        → RefusesAt W References (told e) ⊎ (Passes W References × RefusesAt W Duplicates (told e))) }
+    ensures passes { IfOk result (λ _. (W : World) (X : Extensions) → Holds W all_defs.now (definitions_of definitions.now) X → AllPassed W early_phases) }
+    ensures refused { IfRefused result (λ e. (W : World) (X : Extensions) → Holds W all_defs.now (definitions_of definitions.now) X → OneRefuses W early_phases (told e)) }
 {
     refuse_missing(alloc, all_defs, definitions)?;
     refuse_duplicates(alloc, definitions.definitions())

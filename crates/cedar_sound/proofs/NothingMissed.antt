@@ -103,7 +103,7 @@ module _ (names : Names) where
   Actions = List (Uid × ActionDefinition NameReference ActionReference)
 
   -- the types of an entity type, each of which misses nothing
-  AreWhole : EntityDefinition NameReference → Type 0
+  abbrev pub AreWhole : EntityDefinition NameReference → Type 0
   AreWhole e = AllPass IsWhole (shape_of e) × AllPass IsWhole (tags_of e)
 
   entity_whole : (e : EntityDefinition NameReference) → missing_in_entity names e ≡ [] → AreWhole e
@@ -118,13 +118,13 @@ module _ (names : Names) where
   context_whole a none = (none_of_both (missing_in names a.context) (undefined names a.principals ++ undefined names a.resources) none).0
 
   module _ (all : List Namespace) (none : missing_types names all ≡ []) where
-    commons_of : Namespace → List NameReference
+    abbrev pub commons_of : Namespace → List NameReference
     commons_of ns = flat_map (λ c. missing_in names c.1) ns.common_types
 
-    entities_of : Namespace → List NameReference
+    abbrev pub entities_of : Namespace → List NameReference
     entities_of ns = flat_map (λ e. missing_in_entity names e.1) ns.entity_types
 
-    actions_of : Namespace → List NameReference
+    abbrev pub actions_of : Namespace → List NameReference
     actions_of ns = flat_map (λ a. missing_in_action names a.1) ns.actions
 
     each : AllPass (λ ns. missing_in_namespace names ns ≡ []) all
@@ -195,3 +195,11 @@ module _ (names : Names) where
     where
       Free : ActionDefinition NameReference ActionReference → Type 0
       Free a = AreFree (targets names a.principals) × AreFree (targets names a.resources)
+
+  -- what the parents of an entity type mean has none
+  pub parents_free : (all : List Namespace) → reserved_targets names all ≡ [] → AllPass (λ e. AreFree (entity_memberships names e.1)) (entity_types_in all)
+  parents_free all none = pass_map_of _ (λ (e : EntityDefinition NameReference). AreFree (entity_memberships names e)) (flat_map (λ ns. ns.entity_types) all) (pass_flat (λ e. AreFree (entity_memberships names e.1)) (λ ns. ns.entity_types) all
+      (pass_weaker (λ ns. AreFree (memberships names ns)) (λ ns. AllPass (λ e. AreFree (entity_memberships names e.1)) ns.entity_types)
+      (λ ns free. pass_each (λ n. has_cedar n ≡ false) (λ e. entity_memberships names e.1) ns.entity_types
+        (pass_left (λ n. has_cedar n ≡ false) (flat_map (λ e. entity_memberships names e.1) ns.entity_types) (flat_map (λ a. action_memberships names a.1) ns.actions) free)) all
+      (pass_each (λ n. has_cedar n ≡ false) (memberships names) all (none_kept has_cedar (flat_map (memberships names) all) none))))

@@ -34,11 +34,11 @@ one_zip R one (x ∷ xs) (y ∷ ys) (z ∷ zs) h k =
     let rest : ys ≡ zs = one_zip R one xs ys zs h.1 k.1 in
     λ i. first i ∷ rest i
 
-parts_of : Resolved → ResolvedAttributes
+abbrev pub parts_of : Resolved → ResolvedAttributes
 parts_of (resolved.Record ps is_open) = ps
 parts_of other = resolved.no_attributes
 
-open_of : Resolved → Bool
+abbrev pub open_of : Resolved → Bool
 open_of (resolved.Record ps is_open) = is_open
 open_of other = true
 

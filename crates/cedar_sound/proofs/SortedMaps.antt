@@ -12,6 +12,21 @@ use Rattle.std.specs.declared.cmp.Ordering.TheVariants.{Less, Equal, Greater}
 use Rattle.cedar_data.specs.Firsts.{AllPass}
 use Rattle.cedar_data.specs.Maps.{IsSortedMap, get, map_of}
 
+module _ {K : Type 0} {cmp : K → K → Ordering} (total : IsTotalOrder cmp) where
+  -- what is below a key is below those above it
+  below-all : (k x : K) (ks : List K) → cmp k x ≡ Less → AllByRecursion (λ j. cmp x j ≡ Less) ks → AllByRecursion (λ j. cmp k j ≡ Less) ks
+  below-all k x [] less all = tt
+  below-all k x (j ∷ ks) less all = (total.trans k x j less all.0, below-all k x ks less all.1)
+
+  -- a key is equal to itself
+  pub itself : (k : K) → cmp k k ≡ Equal
+  itself k = by (cmp k k) (total.antisymm k k)
+    where
+      by : (o : Ordering) → o ≡ ordering_reverse o → o ≡ Equal
+      by Less e = absurd (cc)
+      by Equal e = refl
+      by Greater e = absurd (cc)
+
 module _ {K V : Type 0} {cmp : K → K → Ordering} (total : IsTotalOrder cmp) where
   -- a key below others stays so where one is put in that it is below
   below-insert : (x : K) (es : List (K × V)) (k : K) (v : V) → cmp x k ≡ Less → AllByRecursion (λ j. cmp x j ≡ Less) (keys_of es) → AllByRecursion (λ j. cmp x j ≡ Less) (keys_of (insert_entry cmp es k v))
@@ -23,18 +38,13 @@ module _ {K V : Type 0} {cmp : K → K → Ordering} (total : IsTotalOrder cmp) 
       by Equal rest = all
       by Greater rest = (all.0, rest)
 
-  -- what is below a key is below those above it
-  below-all : (k x : K) (ks : List K) → cmp k x ≡ Less → AllByRecursion (λ j. cmp x j ≡ Less) ks → AllByRecursion (λ j. cmp k j ≡ Less) ks
-  below-all k x [] less all = tt
-  below-all k x (j ∷ ks) less all = (total.trans k x j less all.0, below-all k x ks less all.1)
-
   sorted-insert : (es : List (K × V)) (k : K) (v : V) → IsStrictlySortedBy cmp (keys_of es) → IsStrictlySortedBy cmp (keys_of (insert_entry cmp es k v))
   unfolding IsStrictlySortedBy
   sorted-insert [] k v sorted = (tt, tt)
   sorted-insert (e ∷ es) k v sorted = by (cmp k e.0) refl (sorted-insert es k v sorted.1)
     where
       by : (o : Ordering) → cmp k e.0 ≡ o → IsStrictlySortedBy cmp (keys_of (insert_entry cmp es k v)) → IsStrictlySortedBy cmp (keys_of (match_ordering o ((k, v) ∷ e ∷ es) ((e.0, v) ∷ es) (e ∷ insert_entry cmp es k v)))
-      by Less is rest = ((is, below-all k e.0 (keys_of es) is sorted.0), sorted)
+      by Less is rest = ((is, below-all total k e.0 (keys_of es) is sorted.0), sorted)
       by Equal is rest = sorted
       by Greater is rest = (below-insert e.0 es k v (total.antisymm e.0 k ∙ ap ordering_reverse is) sorted.0, rest)
 
@@ -52,15 +62,6 @@ module _ {K V : Type 0} {cmp : K → K → Ordering} (total : IsTotalOrder cmp) 
   absent k [] all = refl
   absent k (e ∷ es) all = ap (λ o. cond (is_eq o) (Some e.1) (get cmp es k)) all.0 ∙ absent k es all.1
 
-  -- a key is equal to itself
-  pub itself : (k : K) → cmp k k ≡ Equal
-  itself k = by (cmp k k) (total.antisymm k k)
-    where
-      by : (o : Ordering) → o ≡ ordering_reverse o → o ≡ Equal
-      by Less e = absurd (cc)
-      by Equal e = refl
-      by Greater e = absurd (cc)
-
   later : (e : K × V) (whole es : List (K × V)) → AllByRecursion (λ j. cmp e.0 j ≡ Less) (keys_of es) → AllPass (λ x. get cmp whole x.0 ≡ Some x.1) es → AllPass (λ x. get cmp (e ∷ whole) x.0 ≡ Some x.1) es
   later e whole [] all found = tt
   later e whole (x ∷ es) all found = (
@@ -73,6 +74,6 @@ module _ {K V : Type 0} {cmp : K → K → Ordering} (total : IsTotalOrder cmp) 
   unfolding IsStrictlySortedBy
   found-each [] sorted = tt
   found-each (e ∷ es) sorted = (
-    ap (λ o. cond (is_eq o) (Some e.1) (get cmp es e.0)) (itself e.0),
+    ap (λ o. cond (is_eq o) (Some e.1) (get cmp es e.0)) (itself total e.0),
     later e es es sorted.0 (found-each es sorted.1),
   )

@@ -26,13 +26,13 @@ from_eq Less e = absurd (cc)
 from_eq Equal e = refl
 from_eq Greater e = absurd (cc)
 
-Types : Type 0
+abbrev pub Types : Type 0
 Types = List (FullName × EntityDefinition NameReference)
 
-Actions : Type 0
+abbrev pub Actions : Type 0
 Actions = List (Uid × ActionDefinition NameReference ActionReference)
 
-WrittenUses : Type 0
+abbrev pub WrittenUses : Type 0
 WrittenUses = List (UsePlace × Written NameReference)
 
 -- a list where nothing is found, before another
@@ -55,7 +55,7 @@ stay-left place (x ∷ xs) ys t found = by (same_place place x.0) found (stay-le
     by false found rest = rest found
 
 -- the uses that f gives of entity types, at the places that p gives
-by_types : (FullName → UsePlace) → (EntityDefinition NameReference → List (Written NameReference)) → Types → WrittenUses
+abbrev pub by_types : (FullName → UsePlace) → (EntityDefinition NameReference → List (Written NameReference)) → Types → WrittenUses
 by_types p f types = flat_map (λ e. map (λ t. (p e.0, t)) (f e.1)) types
 
 module _ (p : FullName → UsePlace) (f : EntityDefinition NameReference → List (Written NameReference)) where
@@ -122,7 +122,7 @@ module _ (p : FullName → UsePlace) (f : EntityDefinition NameReference → Lis
         by false differ found rest = past n e.0 differ (f e.1) (by_types p f types) ∙ rest found is
 
 -- the contexts of actions
-by_actions : Actions → WrittenUses
+abbrev pub by_actions : Actions → WrittenUses
 by_actions actions = map (λ a. (Context a.0, a.1.context)) actions
 
 no_context : (place : UsePlace) → ((u : Uid) → same_place place (Context u) ≡ false) → (actions : Actions) → at_place place (by_actions actions) ≡ None
@@ -139,10 +139,10 @@ context_here (x ∷ actions) u a found = by (is_at (uid_cmp u) x.0) found (conte
     by false found rest = rest found
 
 module _ (types : Types) (actions : Actions) where
-  shapes : WrittenUses
+  abbrev pub shapes : WrittenUses
   shapes = by_types Shape shape_of types
 
-  tags : WrittenUses
+  abbrev pub tags : WrittenUses
   tags = by_types Tags tags_of types
 
   -- the shape of an entity type
