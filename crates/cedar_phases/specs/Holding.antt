@@ -1,7 +1,7 @@
 -- SPDX-License-Identifier: Apache-2.0
 -- The world of fragments, and what the code holds of it.
 use Rattle.std.specs.Prelude.{◌≡◌, List, [], ◌∷◌, map}
-use Rattle.std.specs.List.{flat_map}
+use Rattle.std.specs.List.{AllZip, flat_map}
 use Rattle.cedar_declared.specs.Held.{names_of}
 use Rattle.cedar_declared.specs.declared.all_defs.AllDefs.{AllDefs}
 use Rattle.cedar_definitions.specs.Structures.{definitions_of}
@@ -13,12 +13,30 @@ use Rattle.cedar_names.specs.declared.extensions.Extensions.{Extensions}
 use Rattle.cedar_qualified.specs.Agreeing.{AgreeingNames}
 use Rattle.cedar_world.specs.DefinitionViews.{namespace_in}
 use Rattle.cedar_data.specs.Firsts.{AllPass, FirstRefused}
+use Rattle.cedar_schema_error.specs.NameReferences.{NameReference}
 use Rattle.cedar_schema_error.specs.Refusals.{Refusal}
+use Rattle.cedar_schema_error.specs.Refusals as refusal
+use Rattle.cedar_unfold.specs.Written.{Written}
 use Rattle.cedar_sound.specs.Sound.{ActionCycles, Duplicates, Passes, Phase, References, RefusesAt, UndeclaredTypes, Unfolding}
 use Rattle.cedar_tables.specs.Outlines.{action_outline, action_outline_in, entity_outline, entity_outline_in, use_in}
 use Rattle.cedar_tables.specs.declared.outlines.Tables.{Tables}
+use Rattle.cedar_names.specs.Components.{components}
+use Rattle.cedar_names.specs.declared.entity_uid.EntityUID.{EntityUID}
+use Rattle.cedar_names.specs.declared.internal_name.InternalName.{InternalName}
+use Rattle.cedar_names.specs.declared.name.EntityType.{EntityType}
+use Rattle.cedar_schema_error.specs.declared.use_place.UsePlace as code
+use Rattle.cedar_tables.specs.declared.outlines.ActionOutline.{ActionOutline}
+use Rattle.cedar_tables.specs.declared.outlines.EntityOutline.{EntityOutline}
+use Rattle.cedar_types.specs.declared.ty.ResolvedType.{ResolvedType}
+use Rattle.cedar_unfold.specs.Full.{by_place}
+use Rattle.cedar_unfold.specs.ResolvedViews.{resolved}
+use Rattle.cedar_unfold.specs.Tables.{by_name}
+use Rattle.cedar_unfold.specs.UnfoldPhases.{UnfoldsAt}
+use Rattle.cedar_unfold.specs.WrittenViews.{written_type}
 use Rattle.cedar_world.specs.DefinitionViews.{common_type_in}
-use Rattle.cedar_world.specs.Worlds.{World, actions, all_namespaces, common_types, entity_types, names, uses}
+use Rattle.cedar_world.specs.Qualified.{QualifiesJob}
+use Rattle.cedar_written.specs.declared.ty.SchemaType.{SchemaType}
+use Rattle.cedar_world.specs.Worlds.{World, actions, all_namespaces, common_types, entity_types, job, names, uses}
 use Rattle.cedar_written.specs.declared.conditional_name.ConditionalName.{ConditionalName}
 
 -- definitions whose references carry the names that they may stand for
@@ -45,12 +63,36 @@ pub record AreTables (W : World) (t : Tables) : Type 0 where
   pub entity_types_are : map entity_outline_in t.entity_types ≡ map entity_outline (entity_types W)
   pub actions_are : map action_outline_in t.actions ≡ map action_outline (actions W)
 
+-- what is held where the types are to be unfolded: each reference has a target
+pub record HoldsTypes (W : World) (all_defs : AllDefs) (extensions : Extensions) (commons : List (InternalName × SchemaType ConditionalName)) (used : List (code.UsePlace × SchemaType ConditionalName)) : Type 0 where
+  pub definitions : List Definition
+  pub holds : Holds W all_defs definitions extensions
+  pub common_types_are : map common_type_in commons ≡ common_types W
+  pub uses_are : map use_in used ≡ uses W
+  pub references : Passes W References
+
+-- what is held once they are
+pub record HoldsUnfolded (W : World) (all_defs : AllDefs) (full : List (InternalName × SchemaType InternalName)) (full_uses : List (code.UsePlace × SchemaType InternalName)) (used : List (code.UsePlace × ResolvedType))
+    (types : List (EntityType × EntityOutline)) (acts : List (EntityUID × ActionOutline)) : Type 0 where
+  pub definitions : List Definition
+  pub extensions : Extensions
+  pub holds : Holds W all_defs definitions extensions
+  pub qualifies : QualifiesJob (job W) (by_name (written_type components) full) (by_place (written_type components) full_uses)
+  pub unfolded : AllZip (UnfoldsAt (job W)) (uses W) (by_place resolved used)
+  pub entity_types_are : map entity_outline_in types ≡ map entity_outline (entity_types W)
+  pub actions_are : map action_outline_in acts ≡ map action_outline (actions W)
+  pub references : Passes W References
+  pub unfolding_passes : Passes W Unfolding
+
 -- the phases on references and on names, and those after them
 abbrev pub early_phases : List Phase
 early_phases = References ∷ Duplicates ∷ []
 
+abbrev pub last_phases : List Phase
+last_phases = ActionCycles ∷ UndeclaredTypes ∷ []
+
 abbrev pub later_phases : List Phase
-later_phases = Unfolding ∷ ActionCycles ∷ UndeclaredTypes ∷ []
+later_phases = Unfolding ∷ last_phases
 
 module _ (W : World) where
   -- these phases pass
@@ -60,3 +102,7 @@ module _ (W : World) where
   -- one of these phases refuses, and those before it pass
   abbrev pub OneRefuses : List Phase → Refusal → Type 0
   OneRefuses ps e = FirstRefused (Passes W) (RefusesAt W) ps e
+
+-- the uses of types of a world
+abbrev pub uses_of : World → List (refusal.UsePlace × Written NameReference)
+uses_of W = uses W

@@ -3,22 +3,24 @@ ghost use Rattle.std.specs.Prelude.{◌≡◌, None, Some, List, IfOk};
 ghost use Rattle.std.specs.List.{filter};
 ghost use Rattle.cedar_data.specs.Answers.{IfRefused};
 ghost use Rattle.cedar_declared.specs.Held.{names_of};
-ghost use Rattle.cedar_phases.specs.Holding.{AllPassed, AreTables, Holds, OneRefuses, later_phases};
+ghost use Rattle.cedar_phases.specs.Holding.{AllPassed, HoldsUnfolded, OneRefuses, last_phases};
 ghost use Rattle.cedar_phases.specs.NotDeclared.{AreNotDeclared};
+ghost use Rattle.cedar_phases.specs.SchemaViews.{IsNamed, schema_in};
 ghost use Rattle.cedar_schema_error.specs.FullNames.{FullName};
 ghost use Rattle.cedar_schema_error.specs.Told.{told};
 ghost use Rattle.cedar_undeclared.specs.Undeclared.{is_free, undeclared_refusal};
+ghost use Rattle.cedar_world.specs.Denotes.{Denotes};
+ghost use Rattle.cedar_world.specs.Worlds.{World};
 
 use crate::memberships::membership_names;
-use crate::unfolding::FullTypes;
+use crate::unfolding::{FullTypes, UnfoldedTypes};
 use cedar_data::{Failure, Map, Out};
 use cedar_declared::AllDefs;
 use cedar_hierarchy::{resolved_actions, resolved_entity_types};
 use cedar_names::{EntityType, EntityUID, InternalName};
 use cedar_resolved::ValidatorSchema;
-use cedar_schema_error::{SchemaError, UsePlace};
+use cedar_schema_error::SchemaError;
 use cedar_tables::{ActionOutline, EntityOutline};
-use cedar_types::Type;
 use cedar_undeclared::{undeclared_error, undeclared_names};
 use std::alloc::Global;
 
@@ -40,4 +42,25 @@ fn refuse_undeclared(
         None => Ok(()),
         Some(error) => Err(Failure::Refused(error)),
     }
+}
+
+/// The schema of these entity types and actions, with what the uses of types unfold to. Refused where an action descends
+/// from itself; else with the names that must be entity types, and are none.
+pub(crate) fn assemble(
+    alloc: Global,
+    all_defs: &AllDefs,
+    types: &UnfoldedTypes,
+    entity_types: Map<EntityType, EntityOutline>,
+    actions: Map<EntityUID, ActionOutline>,
+) -> Out<ValidatorSchema, SchemaError>
+    ensures passes { IfOk result (λ _. (W : World) → HoldsUnfolded W all_defs.now types.now.full.common_types types.now.full.uses types.now.uses entity_types actions → AllPassed W last_phases) }
+    ensures denotes { IfOk result (λ S. (W : World) → HoldsUnfolded W all_defs.now types.now.full.common_types types.now.full.uses types.now.uses entity_types actions → Denotes W (schema_in S)) }
+    ensures named { IfOk result IsNamed }
+    ensures refused { IfRefused result (λ e. (W : World) → HoldsUnfolded W all_defs.now types.now.full.common_types types.now.full.uses types.now.uses entity_types actions → OneRefuses W last_phases (told e)) }
+{
+    let memberships = membership_names(alloc, all_defs, &entity_types, &actions)?;
+    let actions = resolved_actions(alloc, all_defs, actions, &types.uses)?;
+    refuse_undeclared(alloc, all_defs, &types.full, memberships.as_slice())?;
+    let entity_types = resolved_entity_types(alloc, all_defs, entity_types, &types.uses)?;
+    Ok(ValidatorSchema::from_parts(entity_types, actions))
 }

@@ -1,18 +1,32 @@
 // SPDX-License-Identifier: Apache-2.0
 ghost use Rattle.std.specs.Prelude.{◌≡◌, ◌⊎◌, IfOk};
+ghost use Rattle.std.specs.List.{AllZip};
 ghost use Rattle.std.specs.declared.result.Result.TheVariants.{Ok, Err};
 ghost use Rattle.cedar_data.specs.Answers.{IfRefused};
 ghost use Rattle.cedar_data.specs.Maps.{map_values};
 ghost use Rattle.cedar_declared.specs.Held.{names_of};
 ghost use Rattle.cedar_declared.specs.Targets.{resolving};
+ghost use Rattle.cedar_names.specs.Components.{components};
+ghost use Rattle.cedar_phases.specs.Holding.{HoldsTypes, uses_of};
+ghost use Rattle.cedar_schema_error.specs.Told.{told};
+ghost use Rattle.cedar_sound.specs.Sound.{Passes, RefusesAt, Unfolding};
+ghost use Rattle.cedar_unfold.specs.Full.{by_place};
+ghost use Rattle.cedar_unfold.specs.ResolvedViews.{resolved};
+ghost use Rattle.cedar_unfold.specs.Tables.{by_name};
+ghost use Rattle.cedar_unfold.specs.UnfoldPhases.{UnfoldsAt};
+ghost use Rattle.cedar_unfold.specs.WrittenViews.{written_type};
+ghost use Rattle.cedar_world.specs.Qualified.{QualifiesJob};
+ghost use Rattle.cedar_world.specs.Worlds.{World, job};
 ghost use Rattle.cedar_written.specs.Answers.{all_values};
 ghost use Rattle.cedar_written.specs.Through.{through_type};
 
 use cedar_data::{Map, Out};
 use cedar_declared::{AllDefs, Resolving};
 use cedar_fragment::{ConditionalName, SchemaType, Walk};
-use cedar_names::InternalName;
+use cedar_names::{Extensions, InternalName};
 use cedar_schema_error::{SchemaError, UsePlace};
+use cedar_types::Type;
+use cedar_unfold::unfold_uncounted;
 use std::alloc::Global;
 
 /// Types over full names: common types by name, and uses of types by place.
@@ -40,4 +54,36 @@ pub(crate) fn full_types(
     let common_types = common_types.walk(alloc, &step)?;
     let uses = uses.walk(alloc, &step)?;
     Ok(FullTypes { common_types, uses })
+}
+
+/// Types over full names, and what the uses of types unfold to.
+#[derive(Drop)]
+pub(crate) struct UnfoldedTypes {
+    /// The types over full names.
+    pub full: FullTypes,
+    /// What the uses unfold to.
+    pub uses: Map<UsePlace, Type>,
+}
+
+/// What the uses of types unfold to, with the common types and each reference's full name. Refused where they don't.
+pub(crate) fn unfolded_types(
+    alloc: Global,
+    all_defs: &AllDefs,
+    common_types: Map<InternalName, SchemaType<ConditionalName>>,
+    uses: Map<UsePlace, SchemaType<ConditionalName>>,
+    extensions: &Extensions,
+) -> Out<UnfoldedTypes, SchemaError>
+    ensures passes { IfOk result (λ u. (W : World) → HoldsTypes W all_defs.now extensions.now common_types uses → Passes W Unfolding) }
+    ensures qualifies { IfOk result (λ u. (W : World) → HoldsTypes W all_defs.now extensions.now common_types uses
+        → QualifiesJob (job W) (by_name (written_type components) u.full.common_types) (by_place (written_type components) u.full.uses)) }
+    ensures unfolded { IfOk result (λ u. (W : World) → HoldsTypes W all_defs.now extensions.now common_types uses
+        → AllZip (UnfoldsAt (job W)) (uses_of W) (by_place resolved u.uses)) }
+    ensures refused { IfRefused result (λ e. (W : World) → HoldsTypes W all_defs.now extensions.now common_types uses → RefusesAt W Unfolding (told e)) }
+{
+    let full = full_types(alloc, all_defs, common_types, uses)?;
+    let unfolded = unfold_uncounted(alloc, &full.common_types, &full.uses, extensions)?;
+    Ok(UnfoldedTypes {
+        full,
+        uses: unfolded.uses,
+    })
 }

@@ -1,0 +1,97 @@
+// SPDX-License-Identifier: Apache-2.0
+ghost use Rattle.std.specs.Prelude.{◌++◌, IfOk, List};
+ghost use Rattle.cedar_data.specs.Answers.{IfRefused};
+ghost use Rattle.cedar_definitions.specs.Structures.{definitions_of};
+ghost use Rattle.cedar_phases.specs.Holding.{AllPassed, AreTables, Definition, Holds, OneRefuses, early_phases, later_phases, world_of};
+ghost use Rattle.cedar_phases.specs.SchemaViews.{IsNamed, schema_in};
+ghost use Rattle.cedar_schema_error.specs.Told.{told};
+ghost use Rattle.cedar_sound.specs.Sound.{Cause, Passes, References, Sound};
+ghost use Rattle.cedar_world.specs.Denotes.{Denotes};
+ghost use Rattle.cedar_world.specs.Worlds.{World};
+
+use crate::assembling::assemble;
+use crate::checking::check_definitions;
+use crate::declaring::{Declarations, declare};
+use crate::unfolding::unfolded_types;
+use cedar_data::Out;
+use cedar_declared::AllDefs;
+use cedar_definitions::ValidatorSchemaFragment;
+use cedar_fragment::ConditionalName;
+use cedar_names::Extensions;
+use cedar_resolved::ValidatorSchema;
+use cedar_schema_error::SchemaError;
+use cedar_tables::{Tables, tables_of};
+use std::alloc::Global;
+
+/// What definitions of namespaces resolve to.
+pub trait FromSchemaFragments: Sized {
+    /// The schema that the definitions of fragments denote, with `extensions` for the extension types. Refused with the
+    /// first of what is wrong with them: a name that shadows another; references that mean nothing declared; a full name
+    /// that is declared twice; types that don't unfold; an action that descends from itself; names that must be entity
+    /// types and are none.
+    fn from_schema_fragments(
+        alloc: Global,
+        fragments: Vec<ValidatorSchemaFragment<ConditionalName, ConditionalName>>,
+        extensions: &Extensions,
+    ) -> Out<Self, SchemaError>;
+}
+
+/// The schema of what is declared, each reference of which has a target. Refused where its types don't unfold, and for
+/// what comes after.
+fn resolve_tables(
+    alloc: Global,
+    all_defs: &AllDefs,
+    tables: Tables,
+    extensions: &Extensions,
+) -> Out<ValidatorSchema, SchemaError>
+    ensures passes { IfOk result (λ _. (W : World) (ds : List Definition) → Holds W all_defs.now ds extensions.now → AreTables W tables → Passes W References → AllPassed W later_phases) }
+    ensures denotes { IfOk result (λ S. (W : World) (ds : List Definition) → Holds W all_defs.now ds extensions.now → AreTables W tables → Passes W References → Denotes W (schema_in S)) }
+    ensures named { IfOk result IsNamed }
+    ensures refused { IfRefused result (λ e. (W : World) (ds : List Definition) → Holds W all_defs.now ds extensions.now → AreTables W tables → Passes W References → OneRefuses W later_phases (told e)) }
+{
+    let Tables {
+        common_types,
+        uses,
+        entity_types,
+        actions,
+    } = tables;
+    let types = unfolded_types(alloc, all_defs, common_types, uses, extensions)?;
+    assemble(alloc, all_defs, &types, entity_types, actions)
+}
+
+/// The schema that declarations denote. Refused where a reference has no target, and for what comes after.
+fn resolve_declarations(
+    alloc: Global,
+    declarations: Declarations,
+    extensions: &Extensions,
+) -> Out<ValidatorSchema, SchemaError>
+    ensures early { IfOk result (λ _. (W : World) → Holds W declarations.all_defs (definitions_of declarations.definitions) extensions.now → AllPassed W early_phases) }
+    ensures later { IfOk result (λ _. (W : World) → Holds W declarations.all_defs (definitions_of declarations.definitions) extensions.now → AllPassed W later_phases) }
+    ensures denotes { IfOk result (λ S. (W : World) → Holds W declarations.all_defs (definitions_of declarations.definitions) extensions.now → Denotes W (schema_in S)) }
+    ensures named { IfOk result IsNamed }
+    ensures refused { IfRefused result (λ e. (W : World) → Holds W declarations.all_defs (definitions_of declarations.definitions) extensions.now → OneRefuses W (early_phases ++ later_phases) (told e)) }
+{
+    let Declarations {
+        all_defs,
+        definitions,
+    } = declarations;
+    check_definitions(alloc, &all_defs, &definitions)?;
+    let tables = tables_of(alloc, definitions.into_definitions())?;
+    resolve_tables(alloc, &all_defs, tables, extensions)
+}
+
+impl FromSchemaFragments for ValidatorSchema {
+    fn from_schema_fragments(
+        alloc: Global,
+        fragments: Vec<ValidatorSchemaFragment<ConditionalName, ConditionalName>>,
+        extensions: &Extensions,
+    ) -> Out<ValidatorSchema, SchemaError>
+        ensures sound { IfOk result (λ _. Sound (world_of fragments.items extensions.now)) }
+        ensures denotes { IfOk result (λ S. Denotes (world_of fragments.items extensions.now) (schema_in S)) }
+        ensures named { IfOk result IsNamed }
+        ensures refused { IfRefused result (λ e. Cause (world_of fragments.items extensions.now) (told e)) }
+    {
+        let declarations = declare(alloc, fragments, extensions)?;
+        resolve_declarations(alloc, declarations, extensions)
+    }
+}
