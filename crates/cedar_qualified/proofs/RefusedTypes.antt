@@ -130,14 +130,15 @@ module _ (names : Names) where
   each_misses : (es : List (List ℕ × TypeOfAttribute ConditionalName)) → AllByRecursion {X = List ℕ × TypeOfAttribute ConditionalName} (λ e. P4 e.1) es
       → (e : SchemaError) → all_values (map_values (through_attribute (resolving names)) es) ≡ Err e → Found (attribute_references (given es)) → ⊥
   each_misses [] all e is none = not_both [] e is
-  each_misses (a ∷ es) all e is none = by (one_refused (through_attribute (resolving names) a.1) (all_values (map_values (through_attribute (resolving names)) es)) (λ v vs. (a.0, v) ∷ vs) e is)
+  each_misses (a ∷ es) all e is none =
+      by (λ others. each_misses es all.1 e others both.1) (one_refused (through_attribute (resolving names) a.1) (all_values (map_values (through_attribute (resolving names)) es)) (λ v vs. (a.0, v) ∷ vs) e is)
     where
       both : Found (references (written_attribute reference_of a.1).1) × Found (attribute_references (given es))
       both = parts_found (references (written_attribute reference_of a.1).1) (attribute_references (given es)) none
 
-      by : (through_attribute (resolving names) a.1 ≡ Err e) ⊎ (all_values (map_values (through_attribute (resolving names)) es) ≡ Err e) → ⊥
-      by (inl first) = all.0 e first both.0
-      by (inr others) = each_misses es all.1 e others both.1
+      by : (all_values (map_values (through_attribute (resolving names)) es) ≡ Err e → ⊥) → (through_attribute (resolving names) a.1 ≡ Err e) ⊎ (all_values (map_values (through_attribute (resolving names)) es) ≡ Err e) → ⊥
+      by rest (inl first) = all.0 e first both.0
+      by rest (inr others) = rest others
 
   attributes_miss : (es : List (List ℕ × TypeOfAttribute ConditionalName)) (additional : Bool) → AllByRecursion {X = List ℕ × TypeOfAttribute ConditionalName} (λ e. P4 e.1) es → P3 (record_of es additional)
   attributes_miss es additional all e is none =
@@ -168,11 +169,12 @@ module _ (names : Names) where
   pub one_misses : {K : Type 0} (es : List (K × SchemaType ConditionalName)) (e : SchemaError) → all_values (map_values (through_type (resolving names)) es) ≡ Err e
       → flat_map (λ e. missing_in names (type_in e.1)) es ≡ [] → ⊥
   one_misses [] e is none = not_both [] e is
-  one_misses (t ∷ es) e is none = by (one_refused (through_type (resolving names) t.1) (all_values (map_values (through_type (resolving names)) es)) (λ v vs. (t.0, v) ∷ vs) e is)
+  one_misses (t ∷ es) e is none =
+      by (λ others. one_misses es e others both.1) (one_refused (through_type (resolving names) t.1) (all_values (map_values (through_type (resolving names)) es)) (λ v vs. (t.0, v) ∷ vs) e is)
     where
       both : (missing_in names (type_in t.1) ≡ []) × (flat_map (λ e. missing_in names (type_in e.1)) es ≡ [])
       both = both_empty (missing_in names (type_in t.1)) (flat_map (λ e. missing_in names (type_in e.1)) es) none
 
-      by : (through_type (resolving names) t.1 ≡ Err e) ⊎ (all_values (map_values (through_type (resolving names)) es) ≡ Err e) → ⊥
-      by (inl first) = type_misses t.1 e first both.0
-      by (inr others) = one_misses es e others both.1
+      by : (all_values (map_values (through_type (resolving names)) es) ≡ Err e → ⊥) → (through_type (resolving names) t.1 ≡ Err e) ⊎ (all_values (map_values (through_type (resolving names)) es) ≡ Err e) → ⊥
+      by rest (inl first) = type_misses t.1 e first both.0
+      by rest (inr others) = rest others
