@@ -127,8 +127,8 @@ names_seen ds = λ i. record {
 held_types : (t : TypeNames) → Keyed components (type_names t)
 held_types t =
     keyed-append components (single_names t.unqualified) (filter is_qualified (map components t.qualified))
-        (keyed_map components (λ (e : Id × Option Loc). internal_name e.0 [] e.1) t.unqualified)
-        (keyed_filter components is_qualified (map components t.qualified) (keyed_map components (λ n. n) t.qualified))
+    (keyed_map components (λ (e : Id × Option Loc). internal_name e.0 [] e.1) t.unqualified)
+    (keyed_filter components is_qualified (map components t.qualified) (keyed_map components (λ n. n) t.qualified))
 
 pub names_agree : (d : AllDefs) (ds : List Definition) → SameNames (names_of d) (declared_names ds) → AgreeingNames (names_of d) (names_in (map namespace_in ds))
 names_agree d ds same = subst (λ names. AgreeingNames (names_of d) names) (names_seen ds) (record {

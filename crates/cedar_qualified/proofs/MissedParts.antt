@@ -155,8 +155,8 @@ module _ (a b : Names) (agree : AgreeingNames a b) where
           map-append reference_of (missing_in_type a shape.0) (flat_map (missing_in_type a) (option_to_list tags))
           ∙ ap (λ l. l ++ map reference_of (flat_map (missing_in_type a) (option_to_list tags))) (type_missed shape.0 ∙ sym (append-nil (missing_in b (views.type_in shape.0))))
           ∙ ap (λ l. flat_map (missing_in b) (views.type_in shape.0 ∷ []) ++ l)
-              (all_seen reference_of views.type_in (missing_in_type a) (missing_in b) type_missed (option_to_list tags)
-              ∙ ap (flat_map (missing_in b)) (tags_seen (map reference_of parents) (views.type_in shape.0) tags))
+          (all_seen reference_of views.type_in (missing_in_type a) (missing_in b) type_missed (option_to_list tags)
+          ∙ ap (flat_map (missing_in b)) (tags_seen (map reference_of parents) (views.type_in shape.0) tags))
   entity_missed (Enum ids) = refl
 
   pub entity_reserved : (e : EntityTypeFragment ConditionalName) → map components (code.missing_in_entity a e).reserved ≡ filter has_cedar (world.entity_memberships b (kind_in e))

@@ -30,6 +30,7 @@ use Rattle.cedar_written.specs.Reference.{named}
 use Rattle.cedar_written.specs.Through.{through_attribute, through_record, through_type, through_variant}
 use Rattle.cedar_written.specs.declared.conditional_name.ConditionalName.{ConditionalName}
 use Rattle.cedar_written.specs.declared.reference_type.ReferenceType.{ReferenceType}
+use Rattle.cedar_written.specs.declared.reference_type.ReferenceType.TheVariants as kind
 use Rattle.cedar_written.specs.declared.ty.RecordType.{RecordType}
 use Rattle.cedar_written.specs.declared.ty.SchemaType.{SchemaType}
 use Rattle.cedar_written.specs.declared.ty.SchemaType.TheVariants as type
@@ -88,37 +89,37 @@ module _ (names : Names) where
   variant_misses : (v : TypeVariant ConditionalName) (loc : Option Loc) → P2 v → P1 (type.Variant v loc)
   variant_misses v loc ih e is none =
       ih e (refused_of (through_variant (resolving names) v) (λ w. type.Variant w loc) e (sym (through-Variant (resolving names) v loc) ∙ is))
-          (same_found _ (written_variant reference_of v) (type_is reference_of (type.Variant v loc) v loc (written_variant reference_of v) refl refl) none)
+      (same_found _ (written_variant reference_of v) (type_is reference_of (type.Variant v loc) v loc (written_variant reference_of v) refl refl) none)
 
   common_misses : (n : ConditionalName) (loc : Option Loc) → P1 (type.CommonTypeRef n loc)
   common_misses n loc e is none =
-      lone _ n e _ (refused_of (resolving names (named _ n)) (λ m. type.CommonTypeRef m loc) e (sym (through-CommonTypeRef (resolving names) n loc) ∙ is))
-          (ap references (is_common reference_of (type.CommonTypeRef n loc) n loc refl)) none
+      lone kind.Common n e _ (refused_of (resolving names (named kind.Common n)) (λ m. type.CommonTypeRef m loc) e (sym (through-CommonTypeRef (resolving names) n loc) ∙ is))
+      (ap references (is_common reference_of (type.CommonTypeRef n loc) n loc refl)) none
 
   set_misses : (t : SchemaType ConditionalName) → P1 t → P2 (variant.Set t)
   set_misses t ih e is none =
       ih e (refused_of (through_type (resolving names) t) (λ u. variant.Set u) e (sym (through-Set (resolving names) t) ∙ is))
-          (same_found _ _ (variant_set reference_of (variant.Set t) t refl) none)
+      (same_found _ _ (variant_set reference_of (variant.Set t) t refl) none)
 
   record_misses : (r : RecordType ConditionalName) → P3 r → P2 (variant.Record r)
   record_misses r ih e is none =
       ih e (refused_of (through_record (resolving names) r) (λ s. variant.Record s) e (sym (through-Record (resolving names) r) ∙ is))
-          (same_found _ _ (record_seen reference_of r) none)
+      (same_found _ _ (record_seen reference_of r) none)
 
   entity_misses : (n : ConditionalName) → P2 (variant.Entity n)
   entity_misses n e is none =
-      lone _ n e _ (refused_of (resolving names (named _ n)) (λ m. variant.Entity m) e (sym (through-Entity (resolving names) n) ∙ is))
-          (ap references (variant_entity reference_of (variant.Entity n) n refl)) none
+      lone kind.Entity n e _ (refused_of (resolving names (named kind.Entity n)) (λ m. variant.Entity m) e (sym (through-Entity (resolving names) n) ∙ is))
+      (ap references (variant_entity reference_of (variant.Entity n) n refl)) none
 
   either_misses : (n : ConditionalName) → P2 (variant.EntityOrCommon n)
   either_misses n e is none =
-      lone _ n e _ (refused_of (resolving names (named _ n)) (λ m. variant.EntityOrCommon m) e (sym (through-EntityOrCommon (resolving names) n) ∙ is))
-          (ap references (variant_either reference_of (variant.EntityOrCommon n) n refl)) none
+      lone kind.CommonOrEntity n e _ (refused_of (resolving names (named kind.CommonOrEntity n)) (λ m. variant.EntityOrCommon m) e (sym (through-EntityOrCommon (resolving names) n) ∙ is))
+      (ap references (variant_either reference_of (variant.EntityOrCommon n) n refl)) none
 
   attribute_misses : (t : SchemaType ConditionalName) (annotations : Annotations) (required : Bool) → P1 t → P4 (attribute_of t annotations required)
   attribute_misses t annotations required ih e is none =
       ih e (refused_of (through_type (resolving names) t) (λ u. attribute_of u annotations required) e (sym (through-attribute_of (resolving names) t annotations required) ∙ is))
-          (same_found _ _ (ap (λ a. a.1) (attribute_seen reference_of t annotations required)) none)
+      (same_found _ _ (ap (λ a. a.1) (attribute_seen reference_of t annotations required)) none)
 
   -- references in two parts
   parts_found : (xs ys : List NameReference) → Found (xs ++ ys) → Found xs × Found ys
@@ -143,7 +144,7 @@ module _ (names : Names) where
   attributes_miss : (es : List (List ℕ × TypeOfAttribute ConditionalName)) (additional : Bool) → AllByRecursion {X = List ℕ × TypeOfAttribute ConditionalName} (λ e. P4 e.1) es → P3 (record_of es additional)
   attributes_miss es additional all e is none =
       each_misses es all e (refused_of (all_values (map_values (through_attribute (resolving names)) es)) (λ us. record_of us additional) e (sym (through-record_of (resolving names) es additional) ∙ is))
-          (same_found _ _ (attributes_seen reference_of es additional) none)
+      (same_found _ _ (attributes_seen reference_of es additional) none)
 
   type_refused : (t : SchemaType ConditionalName) → P1 t
   type_refused = by_cases P1 P2 P3 P4 (record {

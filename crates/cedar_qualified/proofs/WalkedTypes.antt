@@ -32,13 +32,14 @@ use Rattle.cedar_written.specs.Reference.{named}
 use Rattle.cedar_written.specs.Through.{through_attribute, through_record, through_type, through_variant}
 use Rattle.cedar_written.specs.declared.conditional_name.ConditionalName.{ConditionalName}
 use Rattle.cedar_written.specs.declared.reference_type.ReferenceType.{ReferenceType}
+use Rattle.cedar_written.specs.declared.reference_type.ReferenceType.TheVariants as kind
 use Rattle.cedar_written.specs.declared.ty.RecordType.{RecordType}
 use Rattle.cedar_written.specs.declared.ty.SchemaType.{SchemaType}
 use Rattle.cedar_written.specs.declared.ty.SchemaType.TheVariants as type
 use Rattle.cedar_written.specs.declared.ty.TypeOfAttribute.{TypeOfAttribute}
 use Rattle.cedar_written.specs.declared.ty.TypeVariant.{TypeVariant}
 use Rattle.cedar_written.specs.declared.ty.TypeVariant.TheVariants as variant
-use Rattle.cedar_qualified.proofs.Results.{inside_ok, value_of}
+use Rattle.cedar_qualified.proofs.Results.{inside_ok, not_both, value_of}
 
 module _ {N M : Type 0} (name : N → M) where
   -- a record, with its attributes, and an attribute, as they are written
@@ -53,10 +54,7 @@ module _ {N M : Type 0} (name : N → M) where
   attribute_seen t annotations required = fold-attribute_of (type_view name) (variant_view name) (record_view name) (attribute_view name) t annotations required
 
 found_by : (e : SchemaError) (o : Option InternalName) (m : InternalName) → or_refused e o ≡ Ok m → o ≡ Some m
-found_by e None m is = absurd (by is)
-  where
-    by : Err {T = InternalName} e ≡ Ok m → ⊥
-    by p = absurd (cc)
+found_by e None m is = absurd (not_both m e (sym is))
 found_by e (Some n) m is = ap Some (inside_ok {E = SchemaError} n m is)
 
 module _ (names : Names) where
@@ -84,75 +82,75 @@ module _ (names : Names) where
   variant_walked v loc ih u is =
       let whole = value_of (through_variant (resolving names) v) (λ w. Ok (type.Variant w loc)) u (sym (through-Variant (resolving names) v loc) ∙ is) in
       moved _ (written_variant reference_of v) _ (written_variant components whole.0)
-          (type_is reference_of (type.Variant v loc) v loc (written_variant reference_of v) refl refl)
-          (type_is components u whole.0 loc (written_variant components whole.0) (sym (inside_ok {E = SchemaError} (type.Variant whole.0 loc) u whole.2)) refl)
-          (ih whole.0 whole.1)
+      (type_is reference_of (type.Variant v loc) v loc (written_variant reference_of v) refl refl)
+      (type_is components u whole.0 loc (written_variant components whole.0) (sym (inside_ok {E = SchemaError} (type.Variant whole.0 loc) u whole.2)) refl)
+      (ih whole.0 whole.1)
 
   common_walked : (n : ConditionalName) (loc : Option Loc) → P1 (type.CommonTypeRef n loc)
   common_walked n loc u is =
-      let whole = value_of (resolving names (named _ n)) (λ m. Ok (type.CommonTypeRef m loc)) u (sym (through-CommonTypeRef (resolving names) n loc) ∙ is) in
+      let whole = value_of (resolving names (named kind.Common n)) (λ m. Ok (type.CommonTypeRef m loc)) u (sym (through-CommonTypeRef (resolving names) n loc) ∙ is) in
       moved _ _ _ _
-          (is_common reference_of (type.CommonTypeRef n loc) n loc refl)
-          (is_common components u whole.0 loc (sym (inside_ok {E = SchemaError} (type.CommonTypeRef whole.0 loc) u whole.2)))
-          (common (targeted _ n whole.0 whole.1))
+      (is_common reference_of (type.CommonTypeRef n loc) n loc refl)
+      (is_common components u whole.0 loc (sym (inside_ok {E = SchemaError} (type.CommonTypeRef whole.0 loc) u whole.2)))
+      (common (targeted kind.Common n whole.0 whole.1))
 
   string_walked : P2 variant.String
   string_walked w is =
       moved _ _ _ _ (variant_string reference_of variant.String refl)
-          (variant_string components w (sym (inside_ok {E = SchemaError} variant.String w (sym (through-String (resolving names)) ∙ is)))) string
+      (variant_string components w (sym (inside_ok {E = SchemaError} variant.String w (sym (through-String (resolving names)) ∙ is)))) string
 
   long_walked : P2 variant.Long
   long_walked w is =
       moved _ _ _ _ (variant_long reference_of variant.Long refl)
-          (variant_long components w (sym (inside_ok {E = SchemaError} variant.Long w (sym (through-Long (resolving names)) ∙ is)))) long
+      (variant_long components w (sym (inside_ok {E = SchemaError} variant.Long w (sym (through-Long (resolving names)) ∙ is)))) long
 
   boolean_walked : P2 variant.Boolean
   boolean_walked w is =
       moved _ _ _ _ (variant_boolean reference_of variant.Boolean refl)
-          (variant_boolean components w (sym (inside_ok {E = SchemaError} variant.Boolean w (sym (through-Boolean (resolving names)) ∙ is)))) boolean
+      (variant_boolean components w (sym (inside_ok {E = SchemaError} variant.Boolean w (sym (through-Boolean (resolving names)) ∙ is)))) boolean
 
   set_walked : (t : SchemaType ConditionalName) → P1 t → P2 (variant.Set t)
   set_walked t ih w is =
       let whole = value_of (through_type (resolving names) t) (λ u. Ok (variant.Set u)) w (sym (through-Set (resolving names) t) ∙ is) in
       moved _ _ _ _
-          (variant_set reference_of (variant.Set t) t refl)
-          (variant_set components w whole.0 (sym (inside_ok {E = SchemaError} (variant.Set whole.0) w whole.2)))
-          (set (ih whole.0 whole.1))
+      (variant_set reference_of (variant.Set t) t refl)
+      (variant_set components w whole.0 (sym (inside_ok {E = SchemaError} (variant.Set whole.0) w whole.2)))
+      (set (ih whole.0 whole.1))
 
   record_walked : (r : RecordType ConditionalName) → P3 r → P2 (variant.Record r)
   record_walked r ih w is =
       let whole = value_of (through_record (resolving names) r) (λ s. Ok (variant.Record s)) w (sym (through-Record (resolving names) r) ∙ is) in
       moved _ (written_record reference_of r) _ (written_record components whole.0)
-          (record_seen reference_of r)
-          (ap (written_variant components) (sym (inside_ok {E = SchemaError} (variant.Record whole.0) w whole.2)) ∙ record_seen components whole.0)
-          (ih whole.0 whole.1)
+      (record_seen reference_of r)
+      (ap (written_variant components) (sym (inside_ok {E = SchemaError} (variant.Record whole.0) w whole.2)) ∙ record_seen components whole.0)
+      (ih whole.0 whole.1)
 
   entity_walked : (n : ConditionalName) → P2 (variant.Entity n)
   entity_walked n w is =
-      let whole = value_of (resolving names (named _ n)) (λ m. Ok (variant.Entity m)) w (sym (through-Entity (resolving names) n) ∙ is) in
+      let whole = value_of (resolving names (named kind.Entity n)) (λ m. Ok (variant.Entity m)) w (sym (through-Entity (resolving names) n) ∙ is) in
       moved _ _ _ _
-          (variant_entity reference_of (variant.Entity n) n refl)
-          (variant_entity components w whole.0 (sym (inside_ok {E = SchemaError} (variant.Entity whole.0) w whole.2)))
-          (entity (targeted _ n whole.0 whole.1))
+      (variant_entity reference_of (variant.Entity n) n refl)
+      (variant_entity components w whole.0 (sym (inside_ok {E = SchemaError} (variant.Entity whole.0) w whole.2)))
+      (entity (targeted kind.Entity n whole.0 whole.1))
 
   either_walked : (n : ConditionalName) → P2 (variant.EntityOrCommon n)
   either_walked n w is =
-      let whole = value_of (resolving names (named _ n)) (λ m. Ok (variant.EntityOrCommon m)) w (sym (through-EntityOrCommon (resolving names) n) ∙ is) in
+      let whole = value_of (resolving names (named kind.CommonOrEntity n)) (λ m. Ok (variant.EntityOrCommon m)) w (sym (through-EntityOrCommon (resolving names) n) ∙ is) in
       moved _ _ _ _
-          (variant_either reference_of (variant.EntityOrCommon n) n refl)
-          (variant_either components w whole.0 (sym (inside_ok {E = SchemaError} (variant.EntityOrCommon whole.0) w whole.2)))
-          (either (targeted _ n whole.0 whole.1))
+      (variant_either reference_of (variant.EntityOrCommon n) n refl)
+      (variant_either components w whole.0 (sym (inside_ok {E = SchemaError} (variant.EntityOrCommon whole.0) w whole.2)))
+      (either (targeted kind.CommonOrEntity n whole.0 whole.1))
 
   extension_walked : (id : UnreservedId) → P2 (variant.Extension id)
   extension_walked id w is =
       moved _ _ _ _ (variant_extension reference_of (variant.Extension id) id refl)
-          (variant_extension components w id (sym (inside_ok {E = SchemaError} (variant.Extension id) w (sym (through-Extension (resolving names) id) ∙ is)))) extension
+      (variant_extension components w id (sym (inside_ok {E = SchemaError} (variant.Extension id) w (sym (through-Extension (resolving names) id) ∙ is)))) extension
 
   attribute_walked : (t : SchemaType ConditionalName) (annotations : Annotations) (required : Bool) → P1 t → P4 (attribute_of t annotations required)
   attribute_walked t annotations required ih b is =
       let whole = value_of (through_type (resolving names) t) (λ u. Ok (attribute_of u annotations required)) b (sym (through-attribute_of (resolving names) t annotations required) ∙ is) in
       let there : written_attribute components b ≡ (required, written_type components whole.0) =
-          ap (written_attribute components) (sym (inside_ok {E = SchemaError} (attribute_of whole.0 annotations required) b whole.2)) ∙ attribute_seen components whole.0 annotations required in
+      ap (written_attribute components) (sym (inside_ok {E = SchemaError} (attribute_of whole.0 annotations required) b whole.2)) ∙ attribute_seen components whole.0 annotations required in
       let here : written_attribute reference_of (attribute_of t annotations required) ≡ (required, written_type reference_of t) = attribute_seen reference_of t annotations required in
       (ap (λ a. a.0) there ∙ sym (ap (λ a. a.0) here), moved _ _ _ _ (ap (λ a. a.1) here) (ap (λ a. a.1) there) (ih whole.0 whole.1))
 
@@ -171,16 +169,16 @@ module _ (names : Names) where
       let others = value_of (all_values (map_values (through_attribute (resolving names)) es)) _ us first.2 in
       let here = all.0 first.0 first.1 in
       subst (λ us. QualifiesEach (target names) (given (e ∷ es)) (shown us)) (inside_ok {E = SchemaError} ((e.0, first.0) ∷ others.0) us others.2)
-          (subst (λ b. QualifiesEach (target names) (given (e ∷ es)) (attribute e.0 b (written_attribute components first.0).1 (shown others.0))) (sym here.0)
-              (each here.1 (each_walked es all.1 others.0 others.1)))
+      (subst (λ b. QualifiesEach (target names) (given (e ∷ es)) (attribute e.0 b (written_attribute components first.0).1 (shown others.0))) (sym here.0)
+      (each here.1 (each_walked es all.1 others.0 others.1)))
 
   attributes_walked : (es : List (List ℕ × TypeOfAttribute ConditionalName)) (additional : Bool) → AllByRecursion {X = List ℕ × TypeOfAttribute ConditionalName} (λ e. P4 e.1) es → P3 (made.record_of es additional)
   attributes_walked es additional all s is =
       let whole = value_of (all_values (map_values (through_attribute (resolving names)) es)) (λ us. Ok (made.record_of us additional)) s (sym (through-record_of (resolving names) es additional) ∙ is) in
       moved _ _ _ _
-          (attributes_seen reference_of es additional)
-          (ap (written_record components) (sym (inside_ok {E = SchemaError} (made.record_of whole.0 additional) s whole.2)) ∙ attributes_seen components whole.0 additional)
-          (record_of (each_walked es all whole.0 whole.1))
+      (attributes_seen reference_of es additional)
+      (ap (written_record components) (sym (inside_ok {E = SchemaError} (made.record_of whole.0 additional) s whole.2)) ∙ attributes_seen components whole.0 additional)
+      (record_of (each_walked es all whole.0 whole.1))
 
   -- a type
   pub type_walked : (t : SchemaType ConditionalName) (u : SchemaType InternalName) → through_type (resolving names) t ≡ Ok u → Qualifies (target names) (type_in t) (written_type components u)
@@ -214,4 +212,4 @@ module _ (names : Names) where
         let first = value_of (through_type (resolving names) e.1) _ us is in
         let others = value_of (all_values (map_values (through_type (resolving names)) es)) _ us first.2 in
         subst (λ us. AllZip (QualifiesAt (target names)) (before (e ∷ es)) (after us)) (inside_ok {E = SchemaError} ((e.0, first.0) ∷ others.0) us others.2)
-            ((refl, type_walked e.1 first.0 first.1), all_walked es others.0 others.1)
+        ((refl, type_walked e.1 first.0 first.1), all_walked es others.0 others.1)

@@ -53,7 +53,7 @@ pub fn walked_types<K, J>()
     ensures all_qualify { (names : Names) (f : K → J) (es : List (K × SchemaType ConditionalName))
         (us : List (K × SchemaType InternalName)) → all_values (map_values (through_type (resolving names)) es) ≡ Ok us
         → AllZip (QualifiesAt (target names)) (map (λ e. (f e.0, type_in e.1)) es)
-            (map (λ e. (f e.0, written_type components e.1)) us) }
+        (map (λ e. (f e.0, written_type components e.1)) us) }
     ensures refused { (names : Names) (t : SchemaType ConditionalName) (e : SchemaError)
         → through_type (resolving names) t ≡ Err e → missing_in names (type_in t) ≡ [] → ⊥ }
     ensures one_refused { (names : Names) (es : List (K × SchemaType ConditionalName)) (e : SchemaError)
