@@ -1,0 +1,13 @@
+-- SPDX-License-Identifier: Apache-2.0
+pub mod AlikeLookups
+pub mod AlikeLists
+pub mod Bridging
+pub mod JobBridging
+pub mod Results
+pub mod WalkedTypes
+pub mod RefusedTypes
+pub mod SeenReferences
+pub mod Seen
+pub mod MissedParts
+pub mod MissedDefinitions
+pub mod AgreedNames

@@ -1,0 +1,7 @@
+// SPDX-License-Identifier: Apache-2.0
+//! Laws of targets: what stands over full names stands over the references that they are the targets of.
+#![tactic(auto)]
+
+mod laws;
+
+pub use laws::{agreeing_names, full_jobs, missing_is, walked_types};

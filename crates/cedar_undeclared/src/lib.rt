@@ -1,0 +1,10 @@
+// SPDX-License-Identifier: Apache-2.0
+//! Names that stand where only an entity type may stand, and are no declared entity types.
+#![tactic(auto)]
+
+mod error;
+mod gather;
+mod undeclared;
+
+pub use error::undeclared_error;
+pub use undeclared::undeclared_names;
