@@ -3,6 +3,10 @@
 //! type and each action without its types.
 #![tactic(auto)]
 
+mod apart;
+mod declarations;
 mod outlines;
+mod splits;
 
+pub use apart::tables_of;
 pub use outlines::{ActionOutline, EntityOutline, Tables};
