@@ -58,30 +58,33 @@ module _ {K P V T : Type 0} (put : K → P) (part : V → Option T) where
   -- what holds of all keys that are put there
   all_put : (Q : P → Type 0) → ((k : K) → Q (put k)) → (es : List (K × V)) → AllByRecursion Q (keys_of (flat_map put_at es))
   all_put Q holds [] = tt
-  all_put Q holds (e ∷ es) = one (part e.1)
+  all_put Q holds (e ∷ es) = one (part e.1) (all_put Q holds es)
     where
-      one : (o : Option T) → AllByRecursion Q (keys_of (map (λ t. (put e.0, t)) (option_to_list o) ++ flat_map put_at es))
-      one None = all_put Q holds es
-      one (Some t) = (holds e.0, all_put Q holds es)
+      one : (o : Option T) → AllByRecursion Q (keys_of (flat_map put_at es)) → AllByRecursion Q (keys_of (map (λ t. (put e.0, t)) (option_to_list o) ++ flat_map put_at es))
+      one None others = others
+      one (Some t) others = (holds e.0, others)
 
   module _ (cmp : K → K → Ordering) (cmp' : P → P → Ordering) (same : (a b : K) → cmp' (put a) (put b) ≡ cmp a b) where
     above_put : (k : K) (es : List (K × V)) → AllByRecursion (λ b. cmp k b ≡ Less) (keys_of es) → AllByRecursion (λ p. cmp' (put k) p ≡ Less) (keys_of (flat_map put_at es))
     above_put k [] less = tt
-    above_put k (e ∷ es) less = one (part e.1)
+    above_put k (e ∷ es) less = one (part e.1) (above_put k es less.1)
       where
-        one : (o : Option T) → AllByRecursion (λ p. cmp' (put k) p ≡ Less) (keys_of (map (λ t. (put e.0, t)) (option_to_list o) ++ flat_map put_at es))
-        one None = above_put k es less.1
-        one (Some t) = (same k e.0 ∙ less.0, above_put k es less.1)
+        one : (o : Option T) → AllByRecursion (λ p. cmp' (put k) p ≡ Less) (keys_of (flat_map put_at es))
+            → AllByRecursion (λ p. cmp' (put k) p ≡ Less) (keys_of (map (λ t. (put e.0, t)) (option_to_list o) ++ flat_map put_at es))
+        one None others = others
+        one (Some t) others = (same k e.0 ∙ less.0, others)
+
+    sorted_first : (e : K × V) (o : Option T) (es : List (K × V)) → AllByRecursion (λ b. cmp e.0 b ≡ Less) (keys_of es) → IsSortedMap cmp' (flat_map put_at es)
+        → IsSortedMap cmp' (map (λ t. (put e.0, t)) (option_to_list o) ++ flat_map put_at es)
+    unfolding IsStrictlySortedBy
+    sorted_first e None es less sorted = sorted
+    sorted_first e (Some t) es less sorted = (above_put e.0 es less, sorted)
 
     -- where keys ascend, those that are put there do
     sorted_put : (es : List (K × V)) → IsSortedMap cmp es → IsSortedMap cmp' (flat_map put_at es)
     unfolding IsStrictlySortedBy
     sorted_put [] sorted = tt
-    sorted_put (e ∷ es) sorted = one (part e.1)
-      where
-        one : (o : Option T) → IsStrictlySortedBy cmp' (keys_of (map (λ t. (put e.0, t)) (option_to_list o) ++ flat_map put_at es))
-        one None = sorted_put es sorted.1
-        one (Some t) = (above_put e.0 es sorted.0, sorted_put es sorted.1)
+    sorted_put (e ∷ es) sorted = sorted_first e (part e.1) es sorted.0 (sorted_put es sorted.1)
 
 -- one entry for each entry
 module _ {K P V T : Type 0} (put : K → P) (part : V → T) where
@@ -136,4 +139,7 @@ module _ (types : List (EntityType × PlacedEntity)) (actions : List (EntityUID 
       tags_first = all_put Tags (λ e. fragment_tags e.fragment) (λ p. AllByRecursion (λ q. use_cmp p q ≡ Less) (keys_of contexts))
           (λ a. all_each Context (λ c. c.context) (λ q. use_cmp (Tags a) q ≡ Less) (λ b. refl) actions) types
 
-pub ruleset ordered = (uses_ordered)
+  -- so do they under other names
+  pub parts_ordered : {shapes' tags' contexts' : List Use} → shapes' ≡ shapes → tags' ≡ tags → contexts' ≡ contexts → IsSortedMap entity_cmp types → IsSortedMap action_cmp actions → IsSortedMap use_cmp ((shapes' ++ tags') ++ contexts')
+  parts_ordered shapes_are tags_are contexts_are types_ordered actions_ordered =
+      subst (λ us. IsSortedMap use_cmp us) (λ i. (sym shapes_are i ++ sym tags_are i) ++ sym contexts_are i) (uses_ordered types_ordered actions_ordered)

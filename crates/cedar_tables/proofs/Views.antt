@@ -8,7 +8,6 @@ use Rattle.cedar_data.proofs.MapsMade.{map-map_of}
 use Rattle.cedar_declared.specs.Gathering.{action_cmp}
 use Rattle.cedar_definitions.specs.declared.structures.EntityTypeFragment.{EntityTypeFragment}
 use Rattle.cedar_definitions.specs.declared.structures.EntityTypeFragment.TheVariants.{Standard, Enum}
-use Rattle.cedar_fragment.specs.declared.attributes_or_context.AttributesOrContext.{AttributesOrContext}
 use Rattle.cedar_names.specs.Components.{components}
 use Rattle.cedar_names.specs.Names.{entity_cmp, entity_words, internal_cmp}
 use Rattle.cedar_names.specs.Order.{words_cmp}
@@ -19,16 +18,16 @@ use Rattle.cedar_schema_error.specs.FullNames.{FullName, Uid, uid_cmp, uid_in}
 use Rattle.cedar_schema_error.specs.NameReferences.{ActionReference, NameReference}
 use Rattle.cedar_schema_error.specs.Refusals.{UsePlace}
 use Rattle.cedar_schema_error.specs.Refusals as refusal
-use Rattle.cedar_schema_error.specs.declared.use_place.UsePlace as code
-use Rattle.cedar_schema_error.specs.declared.use_place.UsePlace.TheVariants.{Shape, Tags, Context}
+use Rattle.cedar_schema_error.specs.declared.use_place.UsePlace.TheVariants.{Shape, Tags}
+use Rattle.cedar_text.specs.declared.location.Loc.{Loc}
 use Rattle.cedar_unfold.specs.Written.{Written}
 use Rattle.cedar_world.specs.DefinitionViews.{action_in, action_of, common_type_in, entity_type_in, kind_in, namespace_in, type_in}
 use Rattle.cedar_world.specs.Definitions.{ActionDefinition, EntityDefinition, Namespace, shape_of, tags_of}
 use Rattle.cedar_world.specs.Worlds.{actions_in, common_types_in, entity_types_in, uses_in}
 use Rattle.cedar_written.specs.declared.conditional_name.ConditionalName.{ConditionalName}
 use Rattle.cedar_written.specs.declared.ty.SchemaType.{SchemaType}
-use Rattle.cedar_tables.specs.Declarations.{Action, Definition, actions_of, common_types_of, entity_types_of, placed, placed_in, placed_types}
-use Rattle.cedar_tables.specs.Outlines.{action_outline, action_outline_in, entity_outline, entity_outline_in, entity_parts, parts_of_entity, use_in}
+use Rattle.cedar_tables.specs.Declarations.{Action, Definition, action_places, actions_of, common_types_of, entity_places, entity_types_of, placed, placed_in, placed_types}
+use Rattle.cedar_tables.specs.Outlines.{action_outline, action_outline_in, action_place, entity_outline, entity_outline_in, entity_parts, entity_place, parts_of_entity, use_in}
 use Rattle.cedar_tables.specs.Splits.{Use, action_outline_of, all_uses, context_use, fragment_shape, fragment_tags, outline_at, outline_of, shape_use, tags_use, use_at}
 use Rattle.cedar_tables.specs.declared.declarations.PlacedEntity.{PlacedEntity}
 use Rattle.cedar_tables.specs.declared.outlines.ActionOutline.{ActionOutline}
@@ -43,18 +42,23 @@ gathered_views : {A B C D : Type 0} (f : A → List B) (view : B → C) (seen : 
 gathered_views f view seen g each [] = refl
 gathered_views f view seen g each (x ∷ xs) = map-append view (f x) (flat_map f xs) ∙ ap (λ l. l ++ map view (flat_map f xs)) (each x) ∙ ap (λ l. g (seen x) ++ l) (gathered_views f view seen g each xs)
 
+gathered_again : {A B C : Type 0} (f : A → List B) (view : B → C) (g : A → List C) → ((x : A) → map view (f x) ≡ g x) → (xs : List A) → map view (flat_map f xs) ≡ flat_map g xs
+gathered_again f view g each [] = refl
+gathered_again f view g each (x ∷ xs) = map-append view (f x) (flat_map f xs) ∙ ap (λ l. l ++ map view (flat_map f xs)) (each x) ∙ ap (λ l. g x ++ l) (gathered_again f view g each xs)
+
 -- two views of each item are one
 map_views : {A B : Type 0} (f g : A → B) → ((x : A) → f x ≡ g x) → (xs : List A) → map f xs ≡ map g xs
 map_views f g same [] = refl
 map_views f g same (x ∷ xs) = (λ i. same x i ∷ map_views f g same xs i)
 
--- an entity type, a shape and tags, each after its kind
-entity_kept : (e : EntityTypeFragment ConditionalName) (o : EntityType × PlacedEntity) → o.1.fragment ≡ e → entity_outline_in (o.0, outline_of o.1) ≡ entity_outline (placed_in o)
-entity_kept e o is = ap (λ f. (entity_words o.0, parts_of_entity (outline_at f o.1.loc))) is ∙ by e ∙ sym (ap (λ f. (entity_words o.0, entity_parts (kind_in f))) is)
-  where
-    by : (f : EntityTypeFragment ConditionalName) → (entity_words o.0, parts_of_entity (outline_at f o.1.loc)) ≡ (entity_words o.0, entity_parts (kind_in f))
-    by (Standard shape parents tags) = refl
-    by (Enum ids) = refl
+-- what is left of an entity type, its shape and its tags, each after its kind
+parts_kept : (f : EntityTypeFragment ConditionalName) (loc : Option Loc) → parts_of_entity (outline_at f loc) ≡ entity_parts (kind_in f)
+parts_kept (Standard shape parents tags) loc = refl
+parts_kept (Enum ids) loc = refl
+
+place_kept : (f : EntityTypeFragment ConditionalName) (loc : Option Loc) → (outline_at f loc).loc ≡ loc
+place_kept (Standard shape parents tags) loc = refl
+place_kept (Enum ids) loc = refl
 
 shape_kept : (name : EntityType) (f : EntityTypeFragment ConditionalName) → map use_in (use_at (Shape name) (fragment_shape f)) ≡ map (λ t. (refusal.Shape (entity_words name), t)) (shape_of (kind_in f))
 shape_kept name (Standard shape parents tags) = refl
@@ -110,9 +114,27 @@ module _ (ds : List Definition) where
       let made : List (EntityType × PlacedEntity) = map_of entity_cmp (entity_types_of ds) in
       ap (map entity_outline_in) (is ∙ ap (λ a. map_values outline_of (map_of entity_cmp a)) gathered)
       ∙ map-map entity_outline_in (λ e. (e.0, outline_of e.1)) made
-      ∙ map_views (λ e. entity_outline_in (e.0, outline_of e.1)) (λ e. entity_outline (placed_in e)) (λ e. entity_kept e.1.fragment e refl) made
+      ∙ map_views (λ e. entity_outline_in (e.0, outline_of e.1)) (λ e. entity_outline (placed_in e)) (λ e i. (entity_words e.0, parts_kept e.1.fragment e.1.loc i)) made
       ∙ sym (map-map entity_outline placed_in made)
       ∙ ap (map entity_outline) entity_types_kept
+
+  -- the places of what is left
+  pub entity_places_told : (types : List (EntityType × EntityOutline)) (all : List (EntityType × PlacedEntity)) → types ≡ map_values outline_of (map_of entity_cmp all) → all ≡ entity_types_of ds → map entity_place types ≡ map_of entity_cmp (flat_map entity_places ds)
+  entity_places_told types all is gathered =
+      let made : List (EntityType × PlacedEntity) = map_of entity_cmp (entity_types_of ds) in
+      ap (map entity_place) (is ∙ ap (λ a. map_values outline_of (map_of entity_cmp a)) gathered)
+      ∙ map-map entity_place (λ e. (e.0, outline_of e.1)) made
+      ∙ map_views (λ e. entity_place (e.0, outline_of e.1)) (λ e. (e.0, e.1.loc)) (λ e i. (e.0, place_kept e.1.fragment e.1.loc i)) made
+      ∙ map-map_of entity_cmp entity_cmp (λ k. k) (λ (e : PlacedEntity). e.loc) (λ a b. refl) (entity_types_of ds)
+      ∙ ap (map_of entity_cmp) (gathered_again (λ d. placed_types d.entity_types) (λ e. (e.0, e.1.loc)) entity_places (λ d. map-map (λ (e : EntityType × PlacedEntity). (e.0, e.1.loc)) (placed d.entity_types) d.entity_types.defs) ds)
+
+  pub action_places_told : (actions : List (EntityUID × ActionOutline)) (all : List (EntityUID × Action)) → actions ≡ map_values action_outline_of (map_of action_cmp all) → all ≡ actions_of ds → map action_place actions ≡ map_of action_cmp (flat_map action_places ds)
+  action_places_told actions all is gathered =
+      let made : List (EntityUID × Action) = map_of action_cmp (actions_of ds) in
+      ap (map action_place) (is ∙ ap (λ a. map_values action_outline_of (map_of action_cmp a)) gathered)
+      ∙ map-map action_place (λ e. (e.0, action_outline_of e.1)) made
+      ∙ map-map_of action_cmp action_cmp (λ k. k) (λ (a : Action). a.loc) (λ a b. refl) (actions_of ds)
+      ∙ ap (map_of action_cmp) (gathered_again (λ d. d.actions.actions) (λ a. (a.0, a.1.loc)) action_places (λ d. refl) ds)
 
   pub actions_told : (actions : List (EntityUID × ActionOutline)) (all : List (EntityUID × Action)) → actions ≡ map_values action_outline_of (map_of action_cmp all) → all ≡ actions_of ds → map action_outline_in actions ≡ map action_outline (actions_in (map namespace_in ds))
   actions_told actions all is gathered =
@@ -135,4 +157,4 @@ module _ (ds : List Definition) where
       ∙ (λ i. (shapes_told entities i ++ tags_told entities i) ++ contexts_told acts i)
       ∙ (λ i. (flat_map shapes_of (entity_types_kept i) ++ flat_map tagged_of (entity_types_kept i)) ++ map context_of (actions_kept i))
 
-pub ruleset told = (common_types_told, entity_types_told, actions_told, uses_told)
+pub ruleset told = (common_types_told, entity_types_told, actions_told, uses_told, entity_places_told, action_places_told)

@@ -47,6 +47,13 @@ entity_types_of all = flat_map (λ d. placed_types d.entity_types) all
 abbrev pub actions_of : List Definition → List (EntityUID × Action)
 actions_of all = flat_map (λ d. d.actions.actions) all
 
+-- the place of each entity type and of each action that a definition declares
+abbrev pub entity_places : Definition → List (EntityType × Option Loc)
+entity_places d = map (λ e. (e.0, get entity_cmp d.entity_types.locs e.0)) d.entity_types.defs
+
+abbrev pub action_places : Definition → List (EntityUID × Option Loc)
+action_places d = map (λ a. (a.0, a.1.loc)) d.actions.actions
+
 -- an entity type under its full name, places aside
 abbrev pub placed_in : EntityType × PlacedEntity → FullName × EntityDefinition NameReference
 placed_in e = (entity_words e.0, kind_in e.1.fragment)

@@ -1,9 +1,11 @@
 // SPDX-License-Identifier: Apache-2.0
 ghost use Rattle.std.specs.Prelude.{◌≡◌, ◌++◌, map, IfOk, OnOk};
+ghost use Rattle.std.specs.List.{flat_map};
 ghost use Rattle.cedar_data.specs.Maps.{IsSortedMap, map_of, map_values};
 ghost use Rattle.cedar_declared.specs.Gathering.{action_cmp};
 ghost use Rattle.cedar_names.specs.Names.{entity_cmp, internal_cmp};
-ghost use Rattle.cedar_tables.specs.Outlines.{action_outline, action_outline_in, entity_outline, entity_outline_in, use_in};
+ghost use Rattle.cedar_tables.specs.Declarations.{action_places, entity_places};
+ghost use Rattle.cedar_tables.specs.Outlines.{action_outline, action_outline_in, action_place, entity_outline, entity_outline_in, entity_place, use_in};
 ghost use Rattle.cedar_tables.specs.Splits.{action_outline_of, all_uses, outline_of, use_cmp};
 ghost use Rattle.cedar_world.specs.DefinitionViews.{common_type_in, namespace_in};
 ghost use Rattle.cedar_world.specs.Worlds.{actions_in, common_types_in, entity_types_in, uses_in};
@@ -67,7 +69,6 @@ fn joined(
 }
 
 /// The tables of what is declared. Of several of one name the last counts.
-#[tactic(auto, using(crate::proofs::Ordered::ordered))]
 fn tables_from(alloc: Global, declared: Declarations) -> Mem<Tables>
     ensures common_types { IfOk result (λ t. t.common_types ≡ map_of internal_cmp declared.common_types.items) }
     ensures uses { IfOk result (λ t. t.uses
@@ -102,6 +103,10 @@ pub fn tables_of(
         ≡ map entity_outline (entity_types_in (map namespace_in definitions.items))) }
     ensures actions { IfOk result (λ t. map action_outline_in t.actions
         ≡ map action_outline (actions_in (map namespace_in definitions.items))) }
+    ensures entity_places { IfOk result (λ t. map entity_place t.entity_types
+        ≡ map_of entity_cmp (flat_map entity_places definitions.items)) }
+    ensures action_places { IfOk result (λ t. map action_place t.actions
+        ≡ map_of action_cmp (flat_map action_places definitions.items)) }
 {
     let declared = Declarations::gather(alloc, definitions)?;
     tables_from(alloc, declared)
