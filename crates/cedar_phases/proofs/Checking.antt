@@ -15,7 +15,7 @@ use Rattle.cedar_names.specs.Components.{components}
 use Rattle.cedar_names.specs.declared.extensions.Extensions.{Extensions}
 use Rattle.cedar_names.specs.declared.internal_name.InternalName.{InternalName}
 use Rattle.cedar_phases.specs.Holding.{Definition, Holds}
-use Rattle.cedar_qualified.proofs.MissedDefinitions.{missed_actions, missed_reserved, missed_types}
+use Rattle.cedar_qualified.proofs.MissedDefinitions.{actions_missed, reserved_meant, types_missed}
 use Rattle.cedar_schema_error.specs.FullNames.{FullName}
 use Rattle.cedar_schema_error.specs.NameReferences.{ActionReference, NameReference, action_reference_of, reference_of}
 use Rattle.cedar_schema_error.specs.Refusals.{Refusal}
@@ -74,13 +74,13 @@ all_told (d ∷ ds) = λ i. declared_told d i ++ all_told ds i
 
 module _ (W : World) (all_defs : AllDefs) (ds : List Definition) (X : Extensions) (h : Holds W all_defs ds X) where
   types_are : map reference_of (missing_in_each (missing_in_definition (names_of all_defs)) ds).types ≡ missing_types (names W) (all_namespaces W)
-  types_are = missed_types (names_of all_defs) (names W) ds h.names_agree ∙ ap (missing_types (names W)) h.namespaces_are
+  types_are = types_missed (names_of all_defs) (names W) h.names_agree ds ∙ ap (missing_types (names W)) h.namespaces_are
 
   actions_are : map action_reference_of (missing_in_each (missing_in_definition (names_of all_defs)) ds).actions ≡ missing_actions (names W) (all_namespaces W)
-  actions_are = missed_actions (names_of all_defs) (names W) ds h.names_agree ∙ ap (missing_actions (names W)) h.namespaces_are
+  actions_are = actions_missed (names_of all_defs) (names W) h.names_agree ds ∙ ap (missing_actions (names W)) h.namespaces_are
 
   reserved_are : map components (missing_in_each (missing_in_definition (names_of all_defs)) ds).reserved ≡ reserved_targets (names W) (all_namespaces W)
-  reserved_are = missed_reserved (names_of all_defs) (names W) ds h.names_agree ∙ ap (reserved_targets (names W)) h.namespaces_are
+  reserved_are = reserved_meant (names_of all_defs) (names W) h.names_agree ds ∙ ap (reserved_targets (names W)) h.namespaces_are
 
   pub references_pass : refusal_of (missing_in_each (missing_in_definition (names_of all_defs)) ds) ≡ None → Passes W References
   references_pass none =

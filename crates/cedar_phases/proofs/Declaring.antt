@@ -13,7 +13,7 @@ use Rattle.cedar_names.specs.declared.extensions.Extensions.{Extensions}
 use Rattle.cedar_phases.specs.Holding.{Fragment, Holds, world_of}
 use Rattle.cedar_phases.proofs.Agreeing.{same_builtins, shadows_pass, shadows_refuse}
 use Rattle.cedar_qualified.specs.Agreeing.{AgreeingNames}
-use Rattle.cedar_qualified.proofs.AgreedNames.{agreed_names}
+use Rattle.cedar_qualified.proofs.AgreedNames.{names_agree}
 use Rattle.cedar_schema_error.specs.Refusals.{Refusal}
 use Rattle.cedar_schema_error.specs.Told.{told}
 use Rattle.cedar_schema_error.specs.declared.schema_error.SchemaError.{SchemaError}
@@ -29,7 +29,7 @@ module _ (fragments : List Fragment) (extensions : Extensions) (own_defs : AllDe
 
   -- the names of the fragments
   own_agree : AgreeingNames (names_of own_defs) (own W)
-  own_agree = agreed_names own_defs (flat_map definitions_of fragments) gathered
+  own_agree = names_agree own_defs (flat_map definitions_of fragments) gathered
 
   pub shadowing_passes : AllPass (ShadowPasses (names_of own_defs)) shadow_phases → Passes W Shadowing
   shadowing_passes = shadows_pass (names_of own_defs) (own W) own_agree
@@ -41,7 +41,7 @@ module _ (fragments : List Fragment) (extensions : Extensions) (own_defs : AllDe
   pub holds : (builtins all : Fragment) (all_defs : AllDefs) → map namespace_in (definitions_of builtins) ≡ builtin_namespaces (names_of own_defs) (extension_words extensions)
       → definitions_of all ≡ flat_map definitions_of fragments ++ definitions_of builtins → SameNames (names_of all_defs) (declared_names (definitions_of all)) → Holds W all_defs (definitions_of all) extensions
   holds builtins all all_defs built joined same = record {
-    names_agree = subst (λ ns. AgreeingNames (names_of all_defs) (names_in ns)) whole (agreed_names all_defs (definitions_of all) same);
+    names_agree = subst (λ ns. AgreeingNames (names_of all_defs) (names_in ns)) whole (names_agree all_defs (definitions_of all) same);
     namespaces_are = whole;
     extensions_are = refl;
   }

@@ -17,8 +17,8 @@ use Rattle.cedar_names.specs.declared.internal_name.InternalName.{InternalName}
 use Rattle.cedar_phases.specs.Holding.{Definition, Holds}
 use Rattle.cedar_phases.proofs.Agreeing.{same_target}
 use Rattle.cedar_qualified.proofs.JobBridging.{cause_back, unfoldable_back, unfolded_back}
-use Rattle.cedar_qualified.proofs.RefusedTypes.{one_refused}
-use Rattle.cedar_qualified.proofs.WalkedTypes.{all_qualify}
+use Rattle.cedar_qualified.proofs.RefusedTypes.{one_misses}
+use Rattle.cedar_qualified.proofs.WalkedTypes.{all_walked}
 use Rattle.cedar_schema_error.specs.FullNames.{FullName}
 use Rattle.cedar_schema_error.specs.NameReferences.{NameReference}
 use Rattle.cedar_schema_error.specs.Refusals.{Refusal}
@@ -62,11 +62,11 @@ module _ (W : World) (all_defs : AllDefs) (ds : List Definition) (X : Extensions
   -- where no reference is without target, no type is refused
   pub never_refused : (e : SchemaError) → Passes W References
       → (all_values (map_values (through_type (resolving (names_of all_defs))) commons) ≡ Err e) ⊎ (all_values (map_values (through_type (resolving (names_of all_defs))) used) ≡ Err e) → ⊥
-  never_refused e passes (inl refused) = one_refused (names_of all_defs) commons e refused
+  never_refused e passes (inl refused) = one_misses (names_of all_defs) commons e refused
       (none_of_all (λ c. missing_in (names_of all_defs) (type_in c.1)) commons
         (subst (λ (f : Written NameReference → List NameReference). AllPass (λ (c : InternalName × SchemaType ConditionalName). f (type_in c.1) ≡ []) commons) missed_alike
         (pass_unmap (λ c. IsWhole (names W) c.1) common_type_in commons (subst (AllPass (λ c. IsWhole (names W) c.1)) (sym commons_are) (commons_whole (names W) (all_namespaces W) passes.0)))))
-  never_refused e passes (inr refused) = one_refused (names_of all_defs) used e refused
+  never_refused e passes (inr refused) = one_misses (names_of all_defs) used e refused
       (none_of_all (λ u. missing_in (names_of all_defs) (type_in u.1)) used
         (subst (λ (f : Written NameReference → List NameReference). AllPass (λ (u : UsePlace × SchemaType ConditionalName). f (type_in u.1) ≡ []) used) missed_alike
         (pass_unmap (λ u. IsWhole (names W) u.1) use_in used (subst (AllPass (λ u. IsWhole (names W) u.1)) (sym uses_are) (uses_whole (names W) (all_namespaces W) passes.0)))))
@@ -78,9 +78,9 @@ module _ (W : World) (all_defs : AllDefs) (ds : List Definition) (X : Extensions
     pub qualifies : QualifiesJob (job W) (by_name written_full full) (by_place written_full full_uses)
     qualifies = record {
       commons_are = subst (λ ts. AllZip (QualifiesAt (target (names W))) ts (by_name written_full full)) commons_are
-          (subst (λ t. AllZip (QualifiesAt t) (map common_type_in commons) (by_name written_full full)) same (all_qualify (names_of all_defs) components commons full walked));
+          (subst (λ t. AllZip (QualifiesAt t) (map common_type_in commons) (by_name written_full full)) same (all_walked (names_of all_defs) components commons full walked));
       uses_are = subst (λ ts. AllZip (QualifiesAt (target (names W))) ts (by_place written_full full_uses)) uses_are
-          (subst (λ t. AllZip (QualifiesAt t) (map use_in used) (by_place written_full full_uses)) same (all_qualify (names_of all_defs) told_use used full_uses walked_uses));
+          (subst (λ t. AllZip (QualifiesAt t) (map use_in used) (by_place written_full full_uses)) same (all_walked (names_of all_defs) told_use used full_uses walked_uses));
     }
 
     extensions_same : has_word (extension_words X) ≡ has_word W.extensions

@@ -1,0 +1,15 @@
+-- SPDX-License-Identifier: Apache-2.0
+pub mod Agreeing
+pub mod Chained
+pub mod Checking
+pub mod Composing
+pub mod Contained
+pub mod Declaring
+pub mod Descending
+pub mod EntityReferences
+pub mod Making
+pub mod Memberships
+pub mod Records
+pub mod Undeclaring
+pub mod Unfolding
+pub mod UsesMade
