@@ -19,7 +19,7 @@ use Rattle.cedar_phases.specs.NotDeclared.{AreNotDeclared}
 use Rattle.cedar_phases.proofs.Agreeing.{same_entity, same_target}
 use Rattle.cedar_phases.proofs.Contained.{all_members, and_left, of_contained}
 use Rattle.cedar_phases.proofs.EntityReferences.{all_free, names_in_all}
-use Rattle.cedar_phases.proofs.Memberships.{targets_flat}
+use Rattle.cedar_phases.proofs.MembershipLists.{targets_flat}
 use Rattle.cedar_schema_error.specs.FullNames.{FullName, Uid}
 use Rattle.cedar_schema_error.specs.NameReferences.{ActionReference, NameReference}
 use Rattle.cedar_schema_error.specs.Refusals.{Refusal, UndeclaredEntityTypes}
