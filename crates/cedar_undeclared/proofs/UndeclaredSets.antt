@@ -145,22 +145,23 @@ module _ (names : Names) where
   references_put ks (named CommonOrEntity n ∷ rs) = references_put ks rs
   references_put ks (parent id ty ∷ rs) = references_put ks rs
 
+  none_ascends : IsStrictlySortedBy words_cmp []
+  unfolding IsStrictlySortedBy
+  none_ascends = tt
+
+  or_none : (b : Bool) → (b || false) ≡ b
+  or_none true = refl
+  or_none false = refl
+
   -- all that are put in are a set
   set_of_all : (more : List InternalName) → IsSetOf words_cmp (IsUndeclaredAmong names (map components more)) (map components (with_all_undeclared names [] more))
   set_of_all more = record {
     ascends = subst (IsStrictlySortedBy words_cmp) (sym (all_put_seen [] more)) (all_put_ascend [] (map components more) none_ascends);
-    members = λ q. let same : contains words_cmp (map components (with_all_undeclared names [] more)) q ≡ (contains words_cmp (map components more) q && not (is_entity names q)) =
-            ap (λ l. contains words_cmp l q) (all_put_seen [] more) ∙ all_put_contain [] (map components more) q ∙ or_none (contains words_cmp (map components more) q && not (is_entity names q)) in
-        (λ here. sym same ∙ here, λ there. same ∙ there);
+    members = λ q. (λ here. sym (same q) ∙ here, λ there. same q ∙ there);
   }
     where
-      none_ascends : IsStrictlySortedBy words_cmp []
-      unfolding IsStrictlySortedBy
-      none_ascends = tt
-
-      or_none : (b : Bool) → (b || false) ≡ b
-      or_none true = refl
-      or_none false = refl
+      same : (q : FullName) → contains words_cmp (map components (with_all_undeclared names [] more)) q ≡ (contains words_cmp (map components more) q && not (is_entity names q))
+      same q = ap (λ l. contains words_cmp l q) (all_put_seen [] more) ∙ all_put_contain [] (map components more) q ∙ or_none (contains words_cmp (map components more) q && not (is_entity names q))
 
   module _ {K : Type 0} (commons : List (InternalName × SchemaType InternalName)) (uses : List (K × SchemaType InternalName)) (others : List InternalName) where
     abbrev all : List InternalName
