@@ -13,7 +13,7 @@ use Rattle.cedar_data.specs.Firsts.{AllPass}
 use Rattle.cedar_data.specs.Sets.{contains}
 use Rattle.cedar_declared.specs.Gathering.{declared_names}
 use Rattle.cedar_declared.specs.Held.{names_of, single_names, type_names}
-use Rattle.cedar_declared.specs.Names.{Names, SameNames}
+use Rattle.cedar_declared.specs.Names.{SameNames}
 use Rattle.cedar_declared.specs.declared.all_defs.AllDefs.{AllDefs}
 use Rattle.cedar_declared.specs.declared.type_names.TypeNames.{TypeNames}
 use Rattle.cedar_definitions.specs.declared.structures.ValidatorNamespaceDef.{ValidatorNamespaceDef}
@@ -22,12 +22,10 @@ use Rattle.cedar_names.proofs.NameOrder.{words_cmp-equal}
 use Rattle.cedar_names.specs.Components.{components, internal_name}
 use Rattle.cedar_names.specs.Names.{entity_words, internal_of, name_of}
 use Rattle.cedar_names.specs.Order.{word_cmp, words_cmp}
-use Rattle.cedar_names.specs.declared.entity_uid.EntityUID.{EntityUID}
 use Rattle.cedar_names.specs.declared.id.Id.{Id}
-use Rattle.cedar_names.specs.declared.internal_name.InternalName.{InternalName}
 use Rattle.cedar_text.specs.declared.location.Loc.{Loc}
 use Rattle.cedar_schema_error.specs.FullNames.{FullName, Uid, is_qualified, uid_cmp, uid_in}
-use Rattle.cedar_world.specs.DefinitionViews.{action_in, action_of, common_type_in, entity_type_in, kind_in, namespace_in, type_in}
+use Rattle.cedar_world.specs.DefinitionViews.{action_of, kind_in, namespace_in, type_in}
 use Rattle.cedar_world.specs.Worlds.{names_in}
 use Rattle.cedar_written.specs.declared.conditional_name.ConditionalName.{ConditionalName}
 use Rattle.cedar_qualified.specs.Agreeing.{AgreeingNames}

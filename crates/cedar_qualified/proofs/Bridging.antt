@@ -1,6 +1,6 @@
 -- SPDX-License-Identifier: Apache-2.0
 -- A type and the one with targets in place of its references unfold alike.
-use Rattle.std.proofs.Common.{◌≡◌, List, Option, Some, None, refl, sym, ap, ◌∙◌}
+use Rattle.std.proofs.Common.{◌≡◌, List, Some, sym, ap, ◌∙◌}
 use Rattle.std.specs.List.{AllZip}
 use Rattle.std.specs.BTreeMap.{is_at}
 use Rattle.cedar_names.specs.Order.{words_cmp}

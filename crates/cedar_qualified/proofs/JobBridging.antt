@@ -2,9 +2,8 @@
 -- A job and the one over full names pass and are refused alike.
 use Rattle.std.proofs.Common.{◌≡◌, ◌++◌, List, [], ◌∷◌, Some, refl, inl, inr, sym, ap, ◌∙◌, subst}
 use Rattle.std.specs.List.{AllZip}
-use Rattle.std.specs.Option.{is_some}
 use Rattle.cedar_closure.specs.Chains.{Reaches, one, more}
-use Rattle.cedar_data.specs.Firsts.{AllPass, SomePasses, FirstRefused, IsFirst}
+use Rattle.cedar_data.specs.Firsts.{IsFirst}
 use Rattle.cedar_schema_error.specs.FullNames.{FullName}
 use Rattle.cedar_schema_error.specs.Refusals.{Refusal, UsePlace, CommonType, Place, TooDeep, ContextOrShapeNotRecord}
 use Rattle.cedar_unfold.specs.Faults.{faults, attribute_faults, of_target, entity_fault, either_fault, common_fault, open_fault}

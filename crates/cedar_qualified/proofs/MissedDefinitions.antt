@@ -11,7 +11,6 @@ use Rattle.cedar_missing.specs.Undeclared.{Parent, missing_in_common, missing_in
 use Rattle.cedar_missing.specs.Undeclared as code
 use Rattle.cedar_missing.specs.declared.missing.Missing.{Missing}
 use Rattle.cedar_names.specs.Components.{components, has_cedar}
-use Rattle.cedar_names.specs.declared.internal_name.InternalName.{InternalName}
 use Rattle.cedar_schema_error.specs.NameReferences.{action_reference_of, reference_of}
 use Rattle.cedar_world.specs.DefinitionViews.{action_in, common_type_in, entity_type_in, namespace_in}
 use Rattle.cedar_world.specs.Missing.{memberships, missing_actions, missing_in, missing_in_namespace, missing_types, reserved_targets}

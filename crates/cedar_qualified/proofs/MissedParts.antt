@@ -1,12 +1,12 @@
 -- SPDX-License-Identifier: Apache-2.0
 -- What declarations miss among names, as their definitions miss it among names that agree with those.
-use Rattle.std.proofs.Common.{◌≡◌, ◌++◌, ◌||◌, ℕ, Bool, true, false, IsTrue, List, [], ◌∷◌, Option, Some, None, cond, is_none, is_some, map, option_map, option_to_list, append-nil, refl, sym, ap, ◌∙◌}
+use Rattle.std.proofs.Common.{◌≡◌, ◌++◌, ◌||◌, Bool, true, false, IsTrue, List, [], ◌∷◌, Option, Some, None, cond, is_none, is_some, map, option_map, option_to_list, append-nil, refl, sym, ap, ◌∙◌}
 use Rattle.std.proofs.lemmas.List.{map-append}
 use Rattle.std.proofs.lemmas.List.Elements.{filter-append, filter_map-append}
 use Rattle.std.specs.List.{cons_option, filter, filter_map, find, flat_map}
 use Rattle.std.specs.Option.{option_map_or}
 use Rattle.cedar_declared.proofs.FoundTargets.{action_found, type_found}
-use Rattle.cedar_declared.specs.Names.{Names, action_target, is_action, is_declared, target, targets, undefined, undefined_actions}
+use Rattle.cedar_declared.specs.Names.{Names, action_target, is_declared, target, targets, undefined, undefined_actions}
 use Rattle.cedar_declared.specs.Targets.{action_at, found, found_action, parent_type}
 use Rattle.cedar_definitions.specs.declared.structures.ActionFragment.{ActionFragment}
 use Rattle.cedar_definitions.specs.declared.structures.EntityTypeFragment.{EntityTypeFragment}
@@ -18,7 +18,6 @@ use Rattle.cedar_names.specs.Components.{components, has_cedar}
 use Rattle.cedar_names.specs.declared.internal_name.InternalName.{InternalName}
 use Rattle.cedar_schema_error.specs.FullNames.{FullName, Uid}
 use Rattle.cedar_schema_error.specs.NameReferences.{ActionReference, NameReference, action_reference_of, no_reference, reference_of}
-use Rattle.cedar_unfold.specs.Written as written
 use Rattle.cedar_unfold.specs.Written.{Written}
 use Rattle.cedar_world.specs.DefinitionViews.{action_of, kind_in}
 use Rattle.cedar_world.specs.DefinitionViews as views

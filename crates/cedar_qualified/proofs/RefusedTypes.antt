@@ -3,14 +3,13 @@
 use Rattle.std.proofs.Common.{◌≡◌, ◌⊎◌, ◌++◌, ℕ, Bool, List, [], ◌∷◌, Option, Some, None, cond, inl, inr, is_none, option_map, refl, sym, ap, ◌∙◌}
 use Rattle.std.proofs.lemmas.List.Elements.{filter-append}
 use Rattle.std.specs.List.{AllByRecursion, flat_map}
-use Rattle.std.specs.declared.result.Result.TheVariants.{Ok, Err}
+use Rattle.std.specs.declared.result.Result.TheVariants.{Err}
 use Rattle.cedar_data.specs.Maps.{map_values}
 use Rattle.cedar_declared.proofs.FoundTargets.{type_found}
 use Rattle.cedar_declared.specs.Names.{Names, target, undefined}
 use Rattle.cedar_declared.specs.Targets.{found, or_refused, resolving}
 use Rattle.cedar_names.specs.Components.{components}
 use Rattle.cedar_names.specs.declared.annotation.Annotations.{Annotations}
-use Rattle.cedar_names.specs.declared.id.UnreservedId.{UnreservedId}
 use Rattle.cedar_names.specs.declared.internal_name.InternalName.{InternalName}
 use Rattle.cedar_schema_error.specs.FullNames.{FullName}
 use Rattle.cedar_schema_error.specs.NameReferences.{NameReference, reference_of}
@@ -24,7 +23,7 @@ use Rattle.cedar_world.specs.DefinitionViews.{type_in}
 use Rattle.cedar_world.specs.Missing.{first_alone, missing_in}
 use Rattle.cedar_written.proofs.ThroughEquations.{through-Boolean, through-CommonTypeRef, through-Entity, through-EntityOrCommon, through-Extension, through-Long, through-Record, through-Set, through-String, through-Variant, through-attribute_of, through-record_of}
 use Rattle.cedar_written.proofs.TypeInduction.{attribute_of, by_cases, record_of}
-use Rattle.cedar_written.specs.Answers.{all_values, and_then}
+use Rattle.cedar_written.specs.Answers.{all_values}
 use Rattle.cedar_written.specs.Possibilities.{leading}
 use Rattle.cedar_written.specs.Reference.{named}
 use Rattle.cedar_written.specs.Through.{through_attribute, through_record, through_type, through_variant}

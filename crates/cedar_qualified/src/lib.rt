@@ -1,5 +1,5 @@
 // SPDX-License-Identifier: Apache-2.0
-//! Laws of targets: what stands over full names stands over the references that they are the targets of.
+//! Laws of targets: what is so of full names is so of the references that they are the targets of.
 #![tactic(auto)]
 
 mod laws;

@@ -1,6 +1,6 @@
 -- SPDX-License-Identifier: Apache-2.0
 -- The references of a full type that stand where only an entity type may stand, as those of the written type.
-use Rattle.std.proofs.Common.{◌≡◌, ◌++◌, ℕ, Bool, List, [], ◌∷◌, Option, Some, None, map, refl, sym, ap, ◌∙◌}
+use Rattle.std.proofs.Common.{◌≡◌, ◌++◌, ℕ, List, [], ◌∷◌, Option, Some, None, map, refl, sym, ap, ◌∙◌}
 use Rattle.std.proofs.lemmas.List.{map-append}
 use Rattle.std.proofs.lemmas.List.Elements.{filter_map-append}
 use Rattle.std.specs.List.{AllByRecursion, filter_map, flat_map}
@@ -8,12 +8,12 @@ use Rattle.cedar_data.specs.Maps.{map_values}
 use Rattle.cedar_names.specs.Components.{components}
 use Rattle.cedar_names.specs.declared.internal_name.InternalName.{InternalName}
 use Rattle.cedar_schema_error.specs.FullNames.{FullName}
-use Rattle.cedar_unfold.proofs.SchemaTypes.{attribute_is, is_common, type_is, variant_boolean, variant_either, variant_entity, variant_extension, variant_long, variant_record, variant_set, variant_string}
+use Rattle.cedar_unfold.proofs.SchemaTypes.{is_common, type_is, variant_boolean, variant_either, variant_entity, variant_extension, variant_long, variant_set, variant_string}
 use Rattle.cedar_unfold.specs.Written.{Written}
 use Rattle.cedar_unfold.specs.WrittenViews.{attribute_view, record_view, type_view, variant_view, written_attribute, written_attributes, written_record, written_type, written_variant}
 use Rattle.cedar_world.specs.Undeclared.{all_entity_references, attribute_entity_references, entity_references}
 use Rattle.cedar_written.proofs.TypeFolds.{fold-Boolean, fold-CommonTypeRef, fold-Entity, fold-EntityOrCommon, fold-Extension, fold-Long, fold-Record, fold-Set, fold-String, fold-Variant, fold-attribute_of, fold-record_of}
-use Rattle.cedar_written.proofs.TypeInduction.{attribute_of, by_cases, record_of}
+use Rattle.cedar_written.proofs.TypeInduction.{by_cases}
 use Rattle.cedar_written.specs.Reference.{Reference, named, parent}
 use Rattle.cedar_written.specs.References.{Refs, attribute_refs, record_refs, references, references_of_attribute, references_of_record, references_of_variant, type_refs, variant_refs}
 use Rattle.cedar_written.specs.declared.reference_type.ReferenceType.TheVariants.{Common, Entity, CommonOrEntity}

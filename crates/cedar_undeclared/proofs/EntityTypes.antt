@@ -1,7 +1,6 @@
 -- SPDX-License-Identifier: Apache-2.0
 -- Names of entity types, but for those with `__cedar`.
-use Rattle.std.proofs.Common.{◌≡◌, ◌++◌, Bool, true, false, not, List, [], ◌∷◌, Option, Some, None, cond, map, refl, sym, ap, ◌∙◌}
-use Rattle.std.proofs.lemmas.List.{map-append}
+use Rattle.std.proofs.Common.{◌≡◌, Bool, true, false, not, List, [], ◌∷◌, cond, refl, ap}
 use Rattle.std.specs.List.{filter}
 use Rattle.cedar_names.specs.Components.{has_cedar}
 use Rattle.cedar_schema_error.specs.FullNames.{FullName}

@@ -3,3 +3,5 @@ pub mod Gathers
 pub mod EntityNames
 pub mod UndeclaredSets
 pub mod EntityTypes
+pub mod WorldTargets
+pub mod FreeTargets

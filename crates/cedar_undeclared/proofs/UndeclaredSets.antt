@@ -1,6 +1,6 @@
 -- SPDX-License-Identifier: Apache-2.0
 -- Undeclared names that are put together one after another are the set of all.
-use Rattle.std.proofs.Common.{◌≡◌, ◌↔◌, ◌++◌, ◌&&◌, ◌||◌, Bool, true, false, not, IsTrue, List, [], ◌∷◌, cond, fold, map, refl, sym, ap, ◌∙◌, subst}
+use Rattle.std.proofs.Common.{◌≡◌, ◌++◌, ◌&&◌, ◌||◌, Bool, true, false, not, List, [], ◌∷◌, cond, fold, map, refl, sym, ap, ◌∙◌, subst}
 use Rattle.std.proofs.lemmas.List.{map-append}
 use Rattle.std.proofs.lemmas.List.Sums.{fold-append}
 use Rattle.std.specs.BTreeMap.{is_at}
@@ -21,13 +21,12 @@ use Rattle.cedar_names.specs.Order.{words_cmp}
 use Rattle.cedar_names.specs.OrderLaws.{words-total}
 use Rattle.cedar_names.specs.declared.internal_name.InternalName.{InternalName}
 use Rattle.cedar_schema_error.specs.FullNames.{FullName}
-use Rattle.cedar_written.specs.Reference.{Reference, named, parent}
+use Rattle.cedar_written.specs.Reference.{named, parent}
 use Rattle.cedar_written.specs.References.{Refs}
 use Rattle.cedar_written.specs.declared.reference_type.ReferenceType.TheVariants.{Common, Entity, CommonOrEntity}
 use Rattle.cedar_written.specs.declared.ty.SchemaType.{SchemaType}
 use Rattle.cedar_undeclared.specs.Gathering.{references_of_types, with_all_undeclared, with_references, with_undeclared}
-use Rattle.cedar_undeclared.specs.Undeclared.{IsUndeclaredAmong, full_types, names_of_entities}
-use Rattle.cedar_world.specs.Undeclared.{all_entity_references}
+use Rattle.cedar_undeclared.specs.Undeclared.{IsUndeclaredAmong, names_of_entities}
 use Rattle.cedar_undeclared.proofs.EntityNames.{all_entities_seen, entities}
 
 module _ {K : Type 0} (cmp : K → K → Ordering) (total : IsTotalOrder cmp) where
@@ -145,22 +144,23 @@ module _ (names : Names) where
   references_put ks (named CommonOrEntity n ∷ rs) = references_put ks rs
   references_put ks (parent id ty ∷ rs) = references_put ks rs
 
+  none_ascends : IsStrictlySortedBy words_cmp []
+  unfolding IsStrictlySortedBy
+  none_ascends = tt
+
+  or_none : (b : Bool) → (b || false) ≡ b
+  or_none true = refl
+  or_none false = refl
+
   -- all that are put in are a set
   set_of_all : (more : List InternalName) → IsSetOf words_cmp (IsUndeclaredAmong names (map components more)) (map components (with_all_undeclared names [] more))
   set_of_all more = record {
     ascends = subst (IsStrictlySortedBy words_cmp) (sym (all_put_seen [] more)) (all_put_ascend [] (map components more) none_ascends);
-    members = λ q. let same : contains words_cmp (map components (with_all_undeclared names [] more)) q ≡ (contains words_cmp (map components more) q && not (is_entity names q)) =
-            ap (λ l. contains words_cmp l q) (all_put_seen [] more) ∙ all_put_contain [] (map components more) q ∙ or_none (contains words_cmp (map components more) q && not (is_entity names q)) in
-        (λ here. sym same ∙ here, λ there. same ∙ there);
+    members = λ q. (λ here. sym (same q) ∙ here, λ there. same q ∙ there);
   }
     where
-      none_ascends : IsStrictlySortedBy words_cmp []
-      unfolding IsStrictlySortedBy
-      none_ascends = tt
-
-      or_none : (b : Bool) → (b || false) ≡ b
-      or_none true = refl
-      or_none false = refl
+      same : (q : FullName) → contains words_cmp (map components (with_all_undeclared names [] more)) q ≡ (contains words_cmp (map components more) q && not (is_entity names q))
+      same q = ap (λ l. contains words_cmp l q) (all_put_seen [] more) ∙ all_put_contain [] (map components more) q ∙ or_none (contains words_cmp (map components more) q && not (is_entity names q))
 
   module _ {K : Type 0} (commons : List (InternalName × SchemaType InternalName)) (uses : List (K × SchemaType InternalName)) (others : List InternalName) where
     abbrev all : List InternalName
@@ -177,12 +177,12 @@ module _ (names : Names) where
         → IsSetOf words_cmp (IsUndeclaredAmong names (names_of_entities commons uses others)) (map components d)
     undeclared_set a b c d first second third fourth =
         subst (λ l. IsSetOf words_cmp (IsUndeclaredAmong names l) (map components d)) all_seen
-            (subst (λ d. IsSetOf words_cmp (IsUndeclaredAmong names (map components all)) (map components d)) (sym whole) (set_of_all all))
+        (subst (λ d. IsSetOf words_cmp (IsUndeclaredAmong names (map components all)) (map components d)) (sym whole) (set_of_all all))
       where
         whole : d ≡ with_all_undeclared names [] all
         whole =
             fourth
             ∙ ap (λ c. with_all_undeclared names c others) (third ∙ references_put b (references_of_types uses)
-                ∙ ap (λ b. with_all_undeclared names b (entities (references_of_types uses))) (second ∙ ap (λ a. with_references names a (references_of_types commons)) first ∙ references_put [] (references_of_types commons)))
+            ∙ ap (λ b. with_all_undeclared names b (entities (references_of_types uses))) (second ∙ ap (λ a. with_references names a (references_of_types commons)) first ∙ references_put [] (references_of_types commons)))
             ∙ sym (fold-append (with_undeclared names) (with_all_undeclared names [] (entities (references_of_types commons))) (entities (references_of_types uses)) others)
             ∙ sym (fold-append (with_undeclared names) [] (entities (references_of_types commons)) (entities (references_of_types uses) ++ others))

@@ -1,7 +1,6 @@
 -- SPDX-License-Identifier: Apache-2.0
 -- Names that must be entity types and are none, among full types and other names, and the refusal that they are.
 use Rattle.std.specs.Prelude.{◌++◌, ◌&&◌, Bool, not, IsTrue, List, [], ◌∷◌, Option, Some, None, map}
-use Rattle.std.specs.List.{filter}
 use Rattle.cedar_data.specs.Maps.{map_values}
 use Rattle.cedar_data.specs.Sets.{contains}
 use Rattle.cedar_declared.specs.Names.{Names, is_entity}

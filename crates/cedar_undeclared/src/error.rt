@@ -13,10 +13,12 @@ use cedar_schema_error::{SchemaError, UndeclaredEntityTypesError};
 use cedar_text::NonEmpty;
 use std::alloc::Global;
 
-/// The refusal of these names as entity types that are not declared, in order, if there are any. A name with `__cedar`
-/// can't be that of an entity type, and is left out. It fails only for want of memory.
+/// The refusal of these names as entity types that are not declared, in order, if there are any. A
+/// name with `__cedar` can't be that of an entity type, and is left out. It fails only for want of
+/// memory.
 pub fn undeclared_error(alloc: Global, names: &Set<InternalName>) -> Mem<Option<SchemaError>>
-    ensures free { IfOk result (λ e. option_map told e ≡ undeclared_refusal (filter is_free (map components names.now))) }
+    ensures free { IfOk result (λ e. option_map told e
+        ≡ undeclared_refusal (filter is_free (map components names.now))) }
     ensures all { IfOk result (λ e. filter has_cedar (map components names.now) ≡ []
         → option_map told e ≡ undeclared_refusal (map components names.now)) }
 {
@@ -26,7 +28,8 @@ pub fn undeclared_error(alloc: Global, names: &Set<InternalName>) -> Mem<Option<
 
 /// The entity types of the names, but for those with `__cedar`.
 fn entity_types(alloc: Global, names: &Set<InternalName>) -> Mem<Vec<EntityType>>
-    ensures { IfOk result (λ types. map entity_words types.items ≡ filter is_free (map components names.now)) }
+    ensures { IfOk result (λ types. map entity_words types.items
+        ≡ filter is_free (map components names.now)) }
 {
     let mut types = Vec::new(alloc);
     for name in names.iter() {
@@ -40,7 +43,8 @@ fn entity_types(alloc: Global, names: &Set<InternalName>) -> Mem<Vec<EntityType>
 
 /// The entity type of this name, unless it has `__cedar`.
 fn entity_type(name: InternalName) -> Option<EntityType>
-    ensures { option_map entity_words result ≡ cond (is_free (components name)) (Some (components name)) None }
+    ensures { option_map entity_words result
+        ≡ cond (is_free (components name)) (Some (components name)) None }
 {
     match Name::from_internal(name) {
         Ok(name) => Some(EntityType::from_name(name)),
@@ -54,8 +58,8 @@ fn refusal(types: Vec<EntityType>) -> Option<SchemaError>
 {
     match NonEmpty::from_vec(types) {
         None => None,
-        Some(types) => Some(SchemaError::UndeclaredEntityTypes(
-            UndeclaredEntityTypesError { types },
-        )),
+        Some(types) => Some(SchemaError::UndeclaredEntityTypes(UndeclaredEntityTypesError {
+            types,
+        })),
     }
 }

@@ -36,7 +36,8 @@ pub(crate) fn gather_names(
     more: &[InternalName],
     names: &mut Set<InternalName>,
 ) -> Mem<()>
-    ensures { OnOk result (names.new ≡ with_all_undeclared (names_of all_defs.now) names.old more.now) }
+    ensures { OnOk result (names.new
+        ≡ with_all_undeclared (names_of all_defs.now) names.old more.now) }
 {
     for name in more.iter() {
         gather_name(alloc, all_defs, name, names)?;
@@ -52,7 +53,8 @@ pub(crate) fn gather_in_types<K: Ord>(
     types: &Map<K, SchemaType<InternalName>>,
     names: &mut Set<InternalName>,
 ) -> Mem<()>
-    ensures { OnOk result (names.new ≡ with_references (names_of all_defs.now) names.old (references_of_types types.now)) }
+    ensures { OnOk result (names.new
+        ≡ with_references (names_of all_defs.now) names.old (references_of_types types.now)) }
 {
     for (_, ty) in types.iter() {
         gather_in_type(alloc, all_defs, ty, names)?;
@@ -68,11 +70,15 @@ fn gather_in_type(
     ty: &SchemaType<InternalName>,
     names: &mut Set<InternalName>,
 ) -> Mem<()>
-    ensures { OnOk result (names.new ≡ with_references (names_of all_defs.now) names.old (references ty.now)) }
+    ensures { OnOk result (names.new
+        ≡ with_references (names_of all_defs.now) names.old (references ty.now)) }
 {
     match ty {
         SchemaType::Variant { ty, loc: _ } => gather_in_variant(alloc, all_defs, ty, names),
-        SchemaType::CommonTypeRef { type_name: _, loc: _ } => Ok(()),
+        SchemaType::CommonTypeRef {
+            type_name: _,
+            loc: _,
+        } => Ok(()),
     }
 }
 
@@ -84,7 +90,8 @@ fn gather_in_variant(
     ty: &TypeVariant<InternalName>,
     names: &mut Set<InternalName>,
 ) -> Mem<()>
-    ensures { OnOk result (names.new ≡ with_references (names_of all_defs.now) names.old (references_of_variant ty.now)) }
+    ensures { OnOk result (names.new
+        ≡ with_references (names_of all_defs.now) names.old (references_of_variant ty.now)) }
 {
     match ty {
         TypeVariant::String => Ok(()),
@@ -106,7 +113,8 @@ fn gather_in_record(
     fields: &RecordType<InternalName>,
     names: &mut Set<InternalName>,
 ) -> Mem<()>
-    ensures { OnOk result (names.new ≡ with_references (names_of all_defs.now) names.old (references_of_record fields.now)) }
+    ensures { OnOk result (names.new
+        ≡ with_references (names_of all_defs.now) names.old (references_of_record fields.now)) }
 {
     gather_in_attributes(alloc, all_defs, &fields.attributes, names)
 }
@@ -120,7 +128,8 @@ fn gather_in_attributes(
     attributes: &Map<Text, TypeOfAttribute<InternalName>>,
     names: &mut Set<InternalName>,
 ) -> Mem<()>
-    ensures { OnOk result (names.new ≡ with_references (names_of all_defs.now) names.old (references_of_attributes attributes.now)) }
+    ensures { OnOk result (names.new
+        ≡ with_references (names_of all_defs.now) names.old (references_of_attributes attributes.now)) }
 {
     for (_, attribute) in attributes.iter() {
         gather_in_attribute(alloc, all_defs, attribute, names)?;
@@ -136,7 +145,8 @@ fn gather_in_attribute(
     attribute: &TypeOfAttribute<InternalName>,
     names: &mut Set<InternalName>,
 ) -> Mem<()>
-    ensures { OnOk result (names.new ≡ with_references (names_of all_defs.now) names.old (references_of_attribute attribute.now)) }
+    ensures { OnOk result (names.new
+        ≡ with_references (names_of all_defs.now) names.old (references_of_attribute attribute.now)) }
 {
     gather_in_type(alloc, all_defs, &attribute.ty, names)
 }

@@ -4,7 +4,9 @@
 
 mod error;
 mod gather;
+mod laws;
 mod undeclared;
 
 pub use error::undeclared_error;
+pub use laws::undeclared_in_world;
 pub use undeclared::undeclared_names;

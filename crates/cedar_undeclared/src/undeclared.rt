@@ -14,8 +14,9 @@ use cedar_schema_error::UsePlace;
 use cedar_written::SchemaType;
 use std::alloc::Global;
 
-/// The names that stand where only an entity type may stand, and are no declared entity types: those of full types, and
-/// of the others, which are parents, principals and resources. In order, each once. It fails only for want of memory.
+/// The names that stand where only an entity type may stand, and are no declared entity types: those
+/// of full types, and of the others, which are parents, principals and resources. In order, each once.
+/// It fails only for want of memory.
 pub fn undeclared_names(
     alloc: Global,
     all_defs: &AllDefs,
@@ -24,7 +25,8 @@ pub fn undeclared_names(
     others: &[InternalName],
 ) -> Mem<Set<InternalName>>
     ensures { IfOk result (λ names. IsSetOf words_cmp
-        (IsUndeclaredAmong (names_of all_defs.now) (names_of_entities common_types.now uses.now others.now))
+        (IsUndeclaredAmong (names_of all_defs.now)
+        (names_of_entities common_types.now uses.now others.now))
         (map components names)) }
 {
     let mut names = Set::new(alloc);
