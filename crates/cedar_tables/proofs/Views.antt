@@ -21,8 +21,8 @@ use Rattle.cedar_schema_error.specs.Refusals as refusal
 use Rattle.cedar_schema_error.specs.declared.use_place.UsePlace.TheVariants.{Shape, Tags}
 use Rattle.cedar_text.specs.declared.location.Loc.{Loc}
 use Rattle.cedar_unfold.specs.Written.{Written}
-use Rattle.cedar_world.specs.DefinitionViews.{action_in, action_of, common_type_in, entity_type_in, kind_in, namespace_in, type_in}
-use Rattle.cedar_world.specs.Definitions.{ActionDefinition, EntityDefinition, Namespace, shape_of, tags_of}
+use Rattle.cedar_world.specs.DefinitionViews.{action_in, action_of, common_type_in, kind_in, namespace_in, type_in}
+use Rattle.cedar_world.specs.Definitions.{ActionDefinition, EntityDefinition, shape_of, tags_of}
 use Rattle.cedar_world.specs.Worlds.{actions_in, common_types_in, entity_types_in, uses_in}
 use Rattle.cedar_written.specs.declared.conditional_name.ConditionalName.{ConditionalName}
 use Rattle.cedar_written.specs.declared.ty.SchemaType.{SchemaType}
