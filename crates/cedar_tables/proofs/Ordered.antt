@@ -12,7 +12,6 @@ use Rattle.cedar_declared.specs.Gathering.{action_cmp}
 use Rattle.cedar_names.specs.Names.{entity_cmp}
 use Rattle.cedar_names.specs.declared.entity_uid.EntityUID.{EntityUID}
 use Rattle.cedar_names.specs.declared.name.EntityType.{EntityType}
-use Rattle.cedar_schema_error.specs.declared.use_place.UsePlace.{UsePlace}
 use Rattle.cedar_schema_error.specs.declared.use_place.UsePlace.TheVariants.{Shape, Tags, Context}
 use Rattle.cedar_tables.specs.Declarations.{Action}
 use Rattle.cedar_tables.specs.Splits.{Use, all_uses, context_use, fragment_shape, fragment_tags, shape_use, tags_use, use_cmp}
@@ -119,13 +118,13 @@ module _ (types : List (EntityType × PlacedEntity)) (actions : List (EntityUID 
   pub uses_ordered : IsSortedMap entity_cmp types → IsSortedMap action_cmp actions → IsSortedMap use_cmp (all_uses types actions)
   uses_ordered types_ordered actions_ordered =
       map_append use_cmp (shapes ++ tags) contexts
-        (map_append use_cmp shapes tags
-          (sorted_put Shape (λ e. fragment_shape e.fragment) entity_cmp use_cmp (λ a b. refl) types types_ordered)
-          (sorted_put Tags (λ e. fragment_tags e.fragment) entity_cmp use_cmp (λ a b. refl) types types_ordered)
-          shapes_below)
-        (sorted_each Context (λ a. a.context) action_cmp use_cmp (λ a b. refl) actions actions_ordered)
-        (subst (λ ks. AllBelow use_cmp ks (keys_of contexts)) (sym (keys_append shapes tags))
-          (all_append (λ p. AllByRecursion (λ q. use_cmp p q ≡ Less) (keys_of contexts)) (keys_of shapes) (keys_of tags) shapes_first tags_first))
+      (map_append use_cmp shapes tags
+      (sorted_put Shape (λ e. fragment_shape e.fragment) entity_cmp use_cmp (λ a b. refl) types types_ordered)
+      (sorted_put Tags (λ e. fragment_tags e.fragment) entity_cmp use_cmp (λ a b. refl) types types_ordered)
+      shapes_below)
+      (sorted_each Context (λ a. a.context) action_cmp use_cmp (λ a b. refl) actions actions_ordered)
+      (subst (λ ks. AllBelow use_cmp ks (keys_of contexts)) (sym (keys_append shapes tags))
+      (all_append (λ p. AllByRecursion (λ q. use_cmp p q ≡ Less) (keys_of contexts)) (keys_of shapes) (keys_of tags) shapes_first tags_first))
     where
       shapes_below : AllBelow use_cmp (keys_of shapes) (keys_of tags)
       shapes_below = all_put Shape (λ e. fragment_shape e.fragment) (λ p. AllByRecursion (λ q. use_cmp p q ≡ Less) (keys_of tags))

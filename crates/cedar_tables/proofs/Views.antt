@@ -21,14 +21,14 @@ use Rattle.cedar_schema_error.specs.Refusals as refusal
 use Rattle.cedar_schema_error.specs.declared.use_place.UsePlace.TheVariants.{Shape, Tags}
 use Rattle.cedar_text.specs.declared.location.Loc.{Loc}
 use Rattle.cedar_unfold.specs.Written.{Written}
-use Rattle.cedar_world.specs.DefinitionViews.{action_in, action_of, common_type_in, entity_type_in, kind_in, namespace_in, type_in}
-use Rattle.cedar_world.specs.Definitions.{ActionDefinition, EntityDefinition, Namespace, shape_of, tags_of}
+use Rattle.cedar_world.specs.DefinitionViews.{action_in, action_of, common_type_in, kind_in, namespace_in, type_in}
+use Rattle.cedar_world.specs.Definitions.{ActionDefinition, EntityDefinition, shape_of, tags_of}
 use Rattle.cedar_world.specs.Worlds.{actions_in, common_types_in, entity_types_in, uses_in}
 use Rattle.cedar_written.specs.declared.conditional_name.ConditionalName.{ConditionalName}
 use Rattle.cedar_written.specs.declared.ty.SchemaType.{SchemaType}
-use Rattle.cedar_tables.specs.Declarations.{Action, Definition, action_places, actions_of, common_types_of, entity_places, entity_types_of, placed, placed_in, placed_types}
+use Rattle.cedar_tables.specs.Declarations.{Action, Definition, action_places, actions_of, common_types_of, entity_places, entity_types_of, fragments_of, placed, placed_in, placed_types}
 use Rattle.cedar_tables.specs.Outlines.{action_outline, action_outline_in, action_place, entity_outline, entity_outline_in, entity_parts, entity_place, parts_of_entity, use_in}
-use Rattle.cedar_tables.specs.Splits.{Use, action_outline_of, all_uses, context_use, fragment_shape, fragment_tags, outline_at, outline_of, shape_use, tags_use, use_at}
+use Rattle.cedar_tables.specs.Splits.{Use, action_outline_of, all_uses, context_use, fragment_shape, fragment_tags, outline_at, outline_of, shape_at, shape_use, tags_at, tags_use, use_at, uses_kept}
 use Rattle.cedar_tables.specs.declared.declarations.PlacedEntity.{PlacedEntity}
 use Rattle.cedar_tables.specs.declared.outlines.ActionOutline.{ActionOutline}
 use Rattle.cedar_tables.specs.declared.outlines.EntityOutline.{EntityOutline}
@@ -71,6 +71,18 @@ tags_kept name (Standard shape parents tags) = by tags
     by None = refl
     by (Some t) = refl
 tags_kept name (Enum ids) = refl
+
+map_itself : {A B : Type 0} (xs : List (A × B)) → map (λ e. (e.0, e.1)) xs ≡ xs
+map_itself [] = refl
+map_itself (x ∷ xs) = ap (λ l. x ∷ l) (map_itself xs)
+
+-- an entity type without its place
+abbrev fragment_in : EntityType × PlacedEntity → EntityType × EntityTypeFragment ConditionalName
+fragment_in e = (e.0, e.1.fragment)
+
+of_fragments : {B : Type 0} (f : EntityType × EntityTypeFragment ConditionalName → List B) (es : List (EntityType × PlacedEntity)) → flat_map (λ e. f (fragment_in e)) es ≡ flat_map f (map fragment_in es)
+of_fragments f [] = refl
+of_fragments f (e ∷ es) = ap (λ l. f (fragment_in e) ++ l) (of_fragments f es)
 
 -- the uses of entity types and of actions, under their full names
 abbrev shapes_of : FullName × EntityDefinition NameReference → List (UsePlace × Written NameReference)
@@ -144,6 +156,23 @@ module _ (ds : List Definition) where
       ∙ sym (map-map action_outline action_in made)
       ∙ ap (map action_outline) actions_kept
 
+  pub common_types_kept : (types all : List (InternalName × SchemaType ConditionalName)) → types ≡ map_of internal_cmp all → all ≡ common_types_of ds → types ≡ map_of internal_cmp (common_types_of ds)
+  common_types_kept types all is gathered = is ∙ ap (map_of internal_cmp) gathered
+
+  -- the uses with all that the types have
+  fragments_kept : map fragment_in (map_of entity_cmp (entity_types_of ds)) ≡ map_of entity_cmp (fragments_of ds)
+  fragments_kept =
+      map-map_of entity_cmp entity_cmp (λ k. k) (λ (e : PlacedEntity). e.fragment) (λ a b. refl) (entity_types_of ds)
+      ∙ ap (map_of entity_cmp) (gathered_again (λ d. placed_types d.entity_types) fragment_in (λ d. d.entity_types.defs) (λ d. map-map fragment_in (placed d.entity_types) d.entity_types.defs ∙ map_itself d.entity_types.defs) ds)
+
+  pub uses_stay : (uses : List Use) (types : List (EntityType × PlacedEntity)) (actions : List (EntityUID × Action)) → uses ≡ all_uses (map_of entity_cmp types) (map_of action_cmp actions) → types ≡ entity_types_of ds → actions ≡ actions_of ds → uses ≡ uses_kept ds
+  uses_stay uses types actions is types_are actions_are =
+      let entities : List (EntityType × PlacedEntity) = map_of entity_cmp (entity_types_of ds) in
+      let contexts : List Use = map context_use (map_of action_cmp (actions_of ds)) in
+      is ∙ (λ i. all_uses (map_of entity_cmp (types_are i)) (map_of action_cmp (actions_are i)))
+      ∙ (λ i. (of_fragments shape_at entities i ++ of_fragments tags_at entities i) ++ contexts)
+      ∙ (λ i. (flat_map shape_at (fragments_kept i) ++ flat_map tags_at (fragments_kept i)) ++ contexts)
+
   pub uses_told : (uses : List Use) (types : List (EntityType × PlacedEntity)) (actions : List (EntityUID × Action)) → uses ≡ all_uses (map_of entity_cmp types) (map_of action_cmp actions) → types ≡ entity_types_of ds → actions ≡ actions_of ds → map use_in uses ≡ uses_in (map namespace_in ds)
   uses_told uses types actions is types_are actions_are =
       let entities : List (EntityType × PlacedEntity) = map_of entity_cmp (entity_types_of ds) in
@@ -157,4 +186,4 @@ module _ (ds : List Definition) where
       ∙ (λ i. (shapes_told entities i ++ tags_told entities i) ++ contexts_told acts i)
       ∙ (λ i. (flat_map shapes_of (entity_types_kept i) ++ flat_map tagged_of (entity_types_kept i)) ++ map context_of (actions_kept i))
 
-pub ruleset told = (common_types_told, entity_types_told, actions_told, uses_told, entity_places_told, action_places_told)
+pub ruleset told = (common_types_told, entity_types_told, actions_told, uses_told, entity_places_told, action_places_told, common_types_kept, uses_stay)

@@ -37,12 +37,15 @@ placed types e = (e.0, record { fragment = e.1; loc = get entity_cmp types.locs 
 abbrev pub placed_types : EntityTypesDef ConditionalName → List (EntityType × PlacedEntity)
 placed_types types = map (placed types) types.defs
 
--- what definitions declare: common types, entity types, actions
+-- what definitions declare: common types, entity types with their places and without, actions
 abbrev pub common_types_of : List Definition → List (InternalName × SchemaType ConditionalName)
 common_types_of all = flat_map (λ d. d.common_types.defs) all
 
 abbrev pub entity_types_of : List Definition → List (EntityType × PlacedEntity)
 entity_types_of all = flat_map (λ d. placed_types d.entity_types) all
+
+abbrev pub fragments_of : List Definition → List (EntityType × EntityTypeFragment ConditionalName)
+fragments_of all = flat_map (λ d. d.entity_types.defs) all
 
 abbrev pub actions_of : List Definition → List (EntityUID × Action)
 actions_of all = flat_map (λ d. d.actions.actions) all

@@ -2,7 +2,6 @@
 -- What is left of entity types and of actions without their types, and uses of types, places aside.
 use Rattle.std.specs.Prelude.{ℕ, List, Option, Some, None, map}
 use Rattle.std.specs.Option.{option_map}
-use Rattle.cedar_fragment.specs.ActionUids.{over_conditional}
 use Rattle.cedar_names.specs.Names.{entity_words}
 use Rattle.cedar_names.specs.declared.entity_uid.EntityUID.{EntityUID}
 use Rattle.cedar_names.specs.declared.name.EntityType.{EntityType}

@@ -3,8 +3,11 @@
 use Rattle.std.specs.Prelude.{◌++◌, List, [], Option, Some, None, option_to_list, map}
 use Rattle.std.specs.List.{flat_map}
 use Rattle.std.specs.declared.cmp.Ordering.{Ordering}
+use Rattle.cedar_data.specs.Maps.{map_of}
+use Rattle.cedar_declared.specs.Gathering.{action_cmp}
 use Rattle.cedar_definitions.specs.declared.structures.EntityTypeFragment.{EntityTypeFragment}
 use Rattle.cedar_definitions.specs.declared.structures.EntityTypeFragment.TheVariants.{Standard, Enum}
+use Rattle.cedar_names.specs.Names.{entity_cmp}
 use Rattle.cedar_names.specs.declared.entity_uid.EntityUID.{EntityUID}
 use Rattle.cedar_names.specs.declared.name.EntityType.{EntityType}
 use Rattle.cedar_schema_error.specs.contracts.use_place.UsePlaceOrd.TheImpl as order
@@ -13,7 +16,7 @@ use Rattle.cedar_schema_error.specs.declared.use_place.UsePlace.TheVariants.{Sha
 use Rattle.cedar_text.specs.declared.location.Loc.{Loc}
 use Rattle.cedar_written.specs.declared.conditional_name.ConditionalName.{ConditionalName}
 use Rattle.cedar_written.specs.declared.ty.SchemaType.{SchemaType}
-use Rattle.cedar_tables.specs.Declarations.{Action}
+use Rattle.cedar_tables.specs.Declarations.{Action, Definition, actions_of, fragments_of}
 use Rattle.cedar_tables.specs.declared.declarations.PlacedEntity.{PlacedEntity}
 use Rattle.cedar_tables.specs.declared.outlines.ActionOutline.{ActionOutline}
 use Rattle.cedar_tables.specs.declared.outlines.EntityOutline.{EntityOutline}
@@ -72,3 +75,16 @@ context_use a = (Context a.0, a.1.context)
 -- the uses of entity types and of actions: shapes, then types of tags, then contexts
 abbrev pub all_uses : List (EntityType × PlacedEntity) → List (EntityUID × Action) → List Use
 all_uses types actions = (flat_map shape_use types ++ flat_map tags_use types) ++ map context_use actions
+
+-- the uses of entity types, each with all that its type has: shapes, and types of tags
+abbrev pub shape_at : EntityType × EntityTypeFragment ConditionalName → List Use
+shape_at e = use_at (Shape e.0) (fragment_shape e.1)
+
+abbrev pub tags_at : EntityType × EntityTypeFragment ConditionalName → List Use
+tags_at e = use_at (Tags e.0) (fragment_tags e.1)
+
+-- the uses of definitions, so: of the entity types and actions that stay
+abbrev pub uses_kept : List Definition → List Use
+uses_kept all =
+    (flat_map shape_at (map_of entity_cmp (fragments_of all)) ++ flat_map tags_at (map_of entity_cmp (fragments_of all)))
+    ++ map context_use (map_of action_cmp (actions_of all))

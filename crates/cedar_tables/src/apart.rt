@@ -4,9 +4,9 @@ ghost use Rattle.std.specs.List.{flat_map};
 ghost use Rattle.cedar_data.specs.Maps.{IsSortedMap, map_of, map_values};
 ghost use Rattle.cedar_declared.specs.Gathering.{action_cmp};
 ghost use Rattle.cedar_names.specs.Names.{entity_cmp, internal_cmp};
-ghost use Rattle.cedar_tables.specs.Declarations.{action_places, entity_places};
+ghost use Rattle.cedar_tables.specs.Declarations.{action_places, common_types_of, entity_places};
 ghost use Rattle.cedar_tables.specs.Outlines.{action_outline, action_outline_in, action_place, entity_outline, entity_outline_in, entity_place, use_in};
-ghost use Rattle.cedar_tables.specs.Splits.{action_outline_of, all_uses, outline_of, use_cmp};
+ghost use Rattle.cedar_tables.specs.Splits.{action_outline_of, all_uses, outline_of, use_cmp, uses_kept};
 ghost use Rattle.cedar_world.specs.DefinitionViews.{common_type_in, namespace_in};
 ghost use Rattle.cedar_world.specs.Worlds.{actions_in, common_types_in, entity_types_in, uses_in};
 
@@ -107,6 +107,8 @@ pub fn tables_of(
         ≡ map_of entity_cmp (flat_map entity_places definitions.items)) }
     ensures action_places { IfOk result (λ t. map action_place t.actions
         ≡ map_of action_cmp (flat_map action_places definitions.items)) }
+    ensures kept_common_types { IfOk result (λ t. t.common_types ≡ map_of internal_cmp (common_types_of definitions.items)) }
+    ensures kept_uses { IfOk result (λ t. t.uses ≡ uses_kept definitions.items) }
 {
     let declared = Declarations::gather(alloc, definitions)?;
     tables_from(alloc, declared)

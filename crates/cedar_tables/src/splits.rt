@@ -154,10 +154,7 @@ impl EntitySplits {
 
     /// The entity types of a map, parted.
     #[tactic(auto, using(crate::proofs::Parted::entities))]
-    fn split(
-        alloc: Global,
-        entities: Map<EntityType, PlacedEntity>,
-    ) -> Mem<EntitySplits>
+    fn split(alloc: Global, entities: Map<EntityType, PlacedEntity>) -> Mem<EntitySplits>
         ensures outlines { IfOk result (λ s. s.outlines ≡ map_values outline_of entities) }
         ensures shapes { IfOk result (λ s. s.shapes.items ≡ flat_map shape_use entities) }
         ensures tags { IfOk result (λ s. s.tags.items ≡ flat_map tags_use entities) }
@@ -175,10 +172,7 @@ impl EntitySplits {
     }
 
     /// The entity types, parted. Of several of one name the last counts.
-    pub(crate) fn new(
-        alloc: Global,
-        entities: Vec<(EntityType, PlacedEntity)>,
-    ) -> Mem<EntitySplits>
+    pub(crate) fn new(alloc: Global, entities: Vec<(EntityType, PlacedEntity)>) -> Mem<EntitySplits>
         ensures outlines { IfOk result (λ s. s.outlines ≡ map_values outline_of (map_of entity_cmp entities.items)) }
         ensures shapes { IfOk result (λ s. s.shapes.items ≡ flat_map shape_use (map_of entity_cmp entities.items)) }
         ensures tags { IfOk result (λ s. s.tags.items ≡ flat_map tags_use (map_of entity_cmp entities.items)) }
