@@ -1,17 +1,29 @@
 // SPDX-License-Identifier: Apache-2.0
 ghost use Rattle.std.specs.Prelude.{◌≡◌, []};
+ghost use Rattle.std.specs.Map.{keys_of};
 ghost use Rattle.std.specs.Option.{option_copied};
 ghost use Rattle.cedar_data.specs.Sets.{contains};
 ghost use Rattle.cedar_names.specs.Names.{entity_cmp};
 ghost use Rattle.cedar_definitions.specs.Structures.{definitions_of};
 
 use crate::structures::{
-    ActionsDef, EntityTypesDef, ValidatorApplySpec, ValidatorNamespaceDef, ValidatorSchemaFragment,
+    ActionFragment, ActionsDef, EntityTypeFragment, EntityTypesDef, ValidatorApplySpec,
+    ValidatorNamespaceDef, ValidatorSchemaFragment,
 };
 use cedar_data::{Items, Map, Set, SetIter};
-use cedar_names::{EntityType, InternalName};
-use cedar_written::RefName;
+use cedar_names::{EntityType, EntityUID, InternalName};
+use cedar_written::{RefName, SchemaType};
 use std::alloc::Global;
+use std::collections::btree_map::Keys;
+
+/// The full names of entity types, in order.
+pub type EntityNameIter<'a, N> = Keys<'a, EntityType, EntityTypeFragment<N>>;
+
+/// The full names of common types, in order.
+pub type CommonNameIter<'a, N> = Keys<'a, InternalName, SchemaType<N>>;
+
+/// The ids of actions, in order.
+pub type ActionNameIter<'a, N, A> = Keys<'a, EntityUID, ActionFragment<N, A>>;
 
 impl<N: RefName + Ord, A: Ord> ValidatorSchemaFragment<N, A> {
     /// These definitions, as they are given. It takes no memory.
@@ -27,6 +39,14 @@ impl<N: RefName + Ord, A: Ord> ValidatorSchemaFragment<N, A> {
     {
         self.0.as_slice()
     }
+
+    /// The definitions, in order, as a vector. It takes no memory.
+    pub fn into_definitions(self) -> Vec<ValidatorNamespaceDef<N, A>>
+        ensures { result.items ≡ definitions_of self }
+    {
+        let ValidatorSchemaFragment(definitions) = self;
+        definitions.into_vec()
+    }
 }
 
 impl<N: RefName + Ord, A: Ord> ValidatorNamespaceDef<N, A> {
@@ -35,6 +55,27 @@ impl<N: RefName + Ord, A: Ord> ValidatorNamespaceDef<N, A> {
         ensures { option_copied result ≡ self.now.namespace }
     {
         self.namespace.as_ref()
+    }
+
+    /// The full names of its entity types, in order. It takes no memory.
+    pub fn all_declared_entity_type_names(&self) -> EntityNameIter<'_, N>
+        ensures { result ≡ keys_of self.now.entity_types.defs }
+    {
+        self.entity_types.defs.as_map().keys()
+    }
+
+    /// The full names of its common types, in order. It takes no memory.
+    pub fn all_declared_common_type_names(&self) -> CommonNameIter<'_, N>
+        ensures { result ≡ keys_of self.now.common_types.defs }
+    {
+        self.common_types.defs.as_map().keys()
+    }
+
+    /// The ids of its actions, in order. It takes no memory.
+    pub fn all_declared_action_names(&self) -> ActionNameIter<'_, N, A>
+        ensures { result ≡ keys_of self.now.actions.actions }
+    {
+        self.actions.actions.as_map().keys()
     }
 }
 

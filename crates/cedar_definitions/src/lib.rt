@@ -7,6 +7,7 @@ mod common_defs;
 mod copies;
 mod structures;
 
+pub use calls::{ActionNameIter, CommonNameIter, EntityNameIter};
 pub use structures::{
     ActionFragment, ActionsDef, CommonTypeDefs, EntityTypeFragment, EntityTypesDef,
     ValidatorApplySpec, ValidatorNamespaceDef, ValidatorSchemaFragment,
