@@ -16,6 +16,7 @@ mod node;
 mod schema_type;
 mod steps;
 mod survey;
+mod uncounted;
 mod unfold_type;
 mod uses;
 
@@ -23,3 +24,4 @@ pub use all::{Unfolded, unfold_all};
 pub use laws::one_unfolding;
 pub use node::{Looked, TypeNode};
 pub use steps::Steps;
+pub use uncounted::unfold_uncounted;
