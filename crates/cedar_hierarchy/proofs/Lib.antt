@@ -1,0 +1,5 @@
+-- SPDX-License-Identifier: Apache-2.0
+pub mod ChildrenLemmas
+pub mod Closing
+pub mod Membership
+pub mod Views
