@@ -3,3 +3,6 @@
 #![tactic(auto)]
 
 mod children;
+mod gathered;
+mod targets;
+mod uses;
