@@ -1,0 +1,52 @@
+// SPDX-License-Identifier: Apache-2.0
+ghost use Rattle.std.specs.Prelude.{◌≡◌, ◌⊎◌, None, Some, map, IfOk};
+ghost use Rattle.cedar_data.specs.Answers.{IfRefused};
+ghost use Rattle.cedar_declared.specs.Held.{names_of};
+ghost use Rattle.cedar_definitions.specs.Structures.{definitions_of};
+ghost use Rattle.cedar_missing.specs.Undeclared.{missing_in_definition, missing_in_each, refusal_of};
+ghost use Rattle.cedar_names.specs.declared.extensions.Extensions.{Extensions};
+ghost use Rattle.cedar_phases.specs.Holding.{Holds};
+ghost use Rattle.cedar_schema_error.specs.Told.{told};
+ghost use Rattle.cedar_sound.specs.Sound.{Duplicates, Passes, References, RefusesAt};
+ghost use Rattle.cedar_world.specs.Worlds.{World};
+
+use crate::declaring::Fragment;
+use cedar_data::{Failure, Out};
+use cedar_declared::AllDefs;
+use cedar_duplicates::refuse_duplicates;
+use cedar_missing::HasReferences;
+use cedar_schema_error::SchemaError;
+use std::alloc::Global;
+
+/// Refused with the references of definitions that mean nothing declared; where there are none, with the first name
+/// with `__cedar` that a parent, a principal or a resource means.
+fn refuse_missing(
+    alloc: Global,
+    all_defs: &AllDefs,
+    definitions: &Fragment,
+) -> Out<(), SchemaError>
+    ensures nothing { IfOk result (λ _. refusal_of (missing_in_each (missing_in_definition (names_of all_defs.now)) (definitions_of definitions.now)) ≡ None) }
+    ensures refused { IfRefused result (λ e. refusal_of (missing_in_each (missing_in_definition (names_of all_defs.now)) (definitions_of definitions.now)) ≡ Some e) }
+{
+    let missing = definitions.missing(alloc, all_defs)?;
+    match missing.into_refusal() {
+        None => Ok(()),
+        Some(error) => Err(Failure::Refused(error)),
+    }
+}
+
+/// Refused where a reference has no target, or one that it may not have; where each has one, with the first full name
+/// that is declared twice.
+pub(crate) fn check_definitions(
+    alloc: Global,
+    all_defs: &AllDefs,
+    definitions: &Fragment,
+) -> Out<(), SchemaError>
+    ensures references { IfOk result (λ _. (W : World) (X : Extensions) → Holds W all_defs.now (definitions_of definitions.now) X → Passes W References) }
+    ensures duplicates { IfOk result (λ _. (W : World) (X : Extensions) → Holds W all_defs.now (definitions_of definitions.now) X → Passes W Duplicates) }
+    ensures refused { IfRefused result (λ e. (W : World) (X : Extensions) → Holds W all_defs.now (definitions_of definitions.now) X
+        → RefusesAt W References (told e) ⊎ (Passes W References × RefusesAt W Duplicates (told e))) }
+{
+    refuse_missing(alloc, all_defs, definitions)?;
+    refuse_duplicates(alloc, definitions.definitions())
+}

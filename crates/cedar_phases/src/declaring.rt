@@ -1,0 +1,86 @@
+// SPDX-License-Identifier: Apache-2.0
+ghost use Rattle.std.specs.Prelude.{◌≡◌, ◌++◌, OnOk, IfOk, map};
+ghost use Rattle.std.specs.List.{flat_map};
+ghost use Rattle.cedar_data.specs.Answers.{IfRefused};
+ghost use Rattle.cedar_declared.specs.Held.{names_of};
+ghost use Rattle.cedar_definitions.specs.Structures.{definitions_of};
+ghost use Rattle.cedar_phases.specs.Holding.{Holds, world_of};
+ghost use Rattle.cedar_schema_error.specs.Told.{told};
+ghost use Rattle.cedar_sound.specs.Sound.{Passes, RefusesAt, Shadowing};
+
+use cedar_data::{Mem, Out};
+use cedar_declared::AllDefs;
+use cedar_definitions::{ValidatorNamespaceDef, ValidatorSchemaFragment};
+use cedar_fragment::ConditionalName;
+use cedar_names::Extensions;
+use cedar_schema_error::SchemaError;
+use cedar_shadowing::ShadowingChecks;
+use cedar_world::builtin_definitions;
+use std::alloc::Global;
+
+/// The definition of a namespace.
+pub(crate) type Definition = ValidatorNamespaceDef<ConditionalName, ConditionalName>;
+
+/// Definitions of namespaces.
+pub(crate) type Fragment = ValidatorSchemaFragment<ConditionalName, ConditionalName>;
+
+/// All definitions, and the names that they declare.
+#[derive(Drop)]
+pub(crate) struct Declarations {
+    /// The declared names.
+    pub all_defs: AllDefs,
+    /// The definitions, those of the builtin types and of their aliases last.
+    pub definitions: Fragment,
+}
+
+/// Puts more items behind the others.
+fn push_all<T: Drop>(items: &mut Vec<T>, more: Vec<T>) -> Mem<()>
+    ensures { OnOk result (items.new.items ≡ items.old.items ++ more.items) }
+{
+    for item in more {
+        items.push(item)?;
+    }
+    Ok(())
+}
+
+/// The definitions of all fragments, in order.
+fn all_definitions(alloc: Global, fragments: Vec<Fragment>) -> Mem<Vec<Definition>>
+    ensures { IfOk result (λ all. all.items ≡ flat_map definitions_of fragments.items) }
+{
+    let mut all = Vec::new(alloc);
+    for fragment in fragments {
+        push_all(&mut all, fragment.into_definitions())?;
+    }
+    Ok(all)
+}
+
+/// The definitions of all fragments, and then these.
+fn join(alloc: Global, fragments: Vec<Fragment>, last: Fragment) -> Mem<Fragment>
+    ensures { IfOk result (λ f. definitions_of f ≡ flat_map definitions_of fragments.items ++ definitions_of last) }
+{
+    let mut all = all_definitions(alloc, fragments)?;
+    push_all(&mut all, last.into_definitions())?;
+    Ok(ValidatorSchemaFragment::from_namespaces(all))
+}
+
+/// All definitions of fragments, with the builtin types and their aliases. Refused where a name that the fragments
+/// declare shadows another.
+pub(crate) fn declare(
+    alloc: Global,
+    fragments: Vec<Fragment>,
+    extensions: &Extensions,
+) -> Out<Declarations, SchemaError>
+    ensures passes { IfOk result (λ _. Passes (world_of fragments.items extensions.now) Shadowing) }
+    ensures holds { IfOk result (λ d. Holds (world_of fragments.items extensions.now) d.all_defs (definitions_of d.definitions) extensions.now) }
+    ensures refused { IfRefused result (λ e. RefusesAt (world_of fragments.items extensions.now) Shadowing (told e)) }
+{
+    let own = AllDefs::new(alloc, fragments.as_slice())?;
+    own.rfc_70_shadowing_checks(alloc)?;
+    let builtins = builtin_definitions(alloc, &own, extensions)?;
+    let definitions = join(alloc, fragments, builtins)?;
+    let all_defs = AllDefs::single_fragment(alloc, &definitions)?;
+    Ok(Declarations {
+        all_defs,
+        definitions,
+    })
+}
