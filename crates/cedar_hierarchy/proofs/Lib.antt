@@ -1,6 +1,10 @@
 -- SPDX-License-Identifier: Apache-2.0
+pub mod Aligned
 pub mod ChildrenLemmas
 pub mod Closing
+pub mod Hierarchies
 pub mod Meant
 pub mod Membership
+pub mod NamesSeen
+pub mod TypesMeant
 pub mod Views
