@@ -3,6 +3,7 @@ pub mod Aligned
 pub mod ChildrenLemmas
 pub mod Closing
 pub mod Hierarchies
+pub mod HierarchiesMade
 pub mod Meant
 pub mod Membership
 pub mod NamesSeen
