@@ -1,5 +1,6 @@
 -- SPDX-License-Identifier: Apache-2.0
 pub mod Aligned
+pub mod Answering
 pub mod ChildrenLemmas
 pub mod Closing
 pub mod Hierarchies

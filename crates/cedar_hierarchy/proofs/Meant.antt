@@ -1,14 +1,12 @@
 -- SPDX-License-Identifier: Apache-2.0
 -- Keys that references mean.
-use Rattle.std.proofs.Common.{◌≡◌, ◌||◌, ℕ, Bool, true, false, cond, not, IsTrue, IfOk, MatchOption, List, [], ◌∷◌, Option, Some, None, option_map, map, refl, sym, ap, ◌∙◌}
+use Rattle.std.proofs.Common.{◌≡◌, ◌||◌, ℕ, Bool, true, false, cond, not, IsTrue, MatchOption, List, [], ◌∷◌, Option, Some, None, option_map, map, refl, sym, ap, ◌∙◌}
 use Rattle.std.proofs.lemmas.Cmp.{eq_by_cmp_equiv}
 use Rattle.std.specs.BTreeMap.{is_at}
 use Rattle.std.specs.Cmp.{IsTotalOrder}
 use Rattle.std.specs.List.{cons_option, filter_map, find, list_any}
 use Rattle.std.specs.Option.{option_map_or}
 use Rattle.std.specs.declared.cmp.Ordering.{Ordering}
-use Rattle.std.specs.declared.result.Result.{Result}
-use Rattle.std.specs.declared.result.Result.TheVariants.{Ok, Err}
 use Rattle.cedar_data.specs.Sets.{contains, Adds}
 use Rattle.cedar_declared.specs.Names.{Names, action_target, is_action}
 use Rattle.cedar_declared.specs.Targets.{action_at, found}
@@ -62,11 +60,6 @@ any_meant order target f (r ∷ rs) n = by (target (f r)) (any_meant order targe
 pub here_view : {K N : Type 0} (cmp : K → K → Ordering) (order : N → N → Ordering) (view : K → N) → ((a b : K) → is_at (cmp a) b ≡ is_at (order (view a)) (view b)) → (o : Option K) (key : K) → is_here cmp o key ≡ is_here order (option_map view o) (view key)
 here_view cmp order view test None key = refl
 here_view cmp order view test (Some k) key = test key k
-
--- what holds of each value that P holds of
-pub through_ok : {T E : Type 0} (P Q : T → Type 0) → ((t : T) → P t → Q t) → (r : Result T E) → IfOk r P → IfOk r Q
-through_ok P Q f (Ok t) p = f t p
-through_ok P Q f (Err e) p = tt
 
 module _ (names : Names) where
   -- a reference means what is found

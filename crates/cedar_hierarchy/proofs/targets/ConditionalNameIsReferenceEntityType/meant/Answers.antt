@@ -1,7 +1,8 @@
 -- SPDX-License-Identifier: Apache-2.0
 use Rattle.std.proofs.Common.{◌≡◌, ◌∙◌, ap, sym, Some, None}
 use Rattle.cedar_declared.specs.Held.{names_of}
-use Rattle.cedar_hierarchy.proofs.Meant.{through_ok, type_meant, type_told}
+use Rattle.cedar_hierarchy.proofs.Answering.{through_ok}
+use Rattle.cedar_hierarchy.proofs.Meant.{type_meant, type_told}
 use Rattle.cedar_hierarchy.proofs.targets.ConditionalNameIsReferenceEntityType.meant.Goals as goal
 
 pub returns-in-None : goal.returns-in-None
