@@ -8,18 +8,12 @@ use Rattle.std.specs.Map.{lookup}
 use Rattle.std.specs.declared.cmp.Ordering.{Ordering}
 use Rattle.cedar_data.specs.Maps.{get}
 use Rattle.cedar_data.specs.Sets.{contains, Adds}
+use Rattle.cedar_hierarchy.proofs.Meant.{meant_next}
 use Rattle.cedar_hierarchy.specs.Children.{members, children_at, has_parent, is_child}
 
 cond_or : (t x : Bool) → cond t true x ≡ (t || x)
 cond_or true x = refl
 cond_or false x = refl
-
--- under one parent more
-turned : (a h t x : Bool) → ((h && t) || ((a && t) || x)) ≡ (((a || h) && t) || x)
-turned false h t x = refl
-turned true false t x = refl
-turned true true false x = refl
-turned true true true x = refl
 
 module _ {K : Type 0} {cmp : K → K → Ordering} (total : IsTotalOrder cmp) where
   -- the set of a parent taken out, the child put in, and the set put back
@@ -42,6 +36,13 @@ module _ {K : Type 0} {cmp : K → K → Ordering} (total : IsTotalOrder cmp) wh
           ap (λ o. contains cmp (members o) c) (put p ∙ ap (λ t. cond t (Some after) (get cmp mid p)) e ∙ out p ∙ ap (λ t. cond t None (get cmp old p)) e)
           ∙ ap (λ t. (t && is_at (cmp child) c) || is_child cmp old p c) (sym ((eq_by_cmp_equiv total).symm p parent ∙ e))
 
--- under one parent more
-pub linked_next : (a h t x y z : Bool) → y ≡ ((a && t) || x) → (((a || h) && t) || x) ≡ z → ((h && t) || y) ≡ z
-linked_next a h t x y z e f = ap (λ b. (h && t) || b) e ∙ turned a h t x ∙ f
+-- one item more under its parents
+pub gathered_next : {K V : Type 0} (cmp : K → K → Ordering) (is_parent : V → K → Bool) (left rest : List (K × V)) (key : K) (v : V) (parents : List K) (old new : List (K × List K)) (parent child : K) (all : Bool)
+    → left ≡ (key, v) ∷ rest → contains cmp parents parent ≡ is_parent v parent
+    → is_child cmp new parent child ≡ ((contains cmp parents parent && is_at (cmp key) child) || is_child cmp old parent child)
+    → (has_parent cmp is_parent left parent child || is_child cmp old parent child) ≡ all
+    → (has_parent cmp is_parent rest parent child || is_child cmp new parent child) ≡ all
+gathered_next cmp is_parent left rest key v parents old new parent child all first told put sofar =
+    meant_next (has_parent cmp is_parent rest parent child) (is_parent v parent && is_at (cmp key) child) (is_child cmp old parent child) (is_child cmp new parent child) all
+    (put ∙ ap (λ t. (t && is_at (cmp key) child) || is_child cmp old parent child) told)
+    (ap (λ es. has_parent cmp is_parent es parent child || is_child cmp old parent child) (sym first) ∙ sofar)

@@ -1,6 +1,6 @@
 -- SPDX-License-Identifier: Apache-2.0
 -- Outlines, the nodes that are made of them, and the closure of these.
-use Rattle.std.proofs.Common.{◌≡◌, ◌||◌, Bool, true, IsTrue, List, [], ◌∷◌, Option, map, refl, sym, ap, ◌∙◌, subst}
+use Rattle.std.proofs.Common.{◌≡◌, Bool, true, List, [], ◌∷◌, Option, map, refl, sym, ap, ◌∙◌, subst}
 use Rattle.std.specs.BTreeMap.{is_at}
 use Rattle.std.specs.List.{AllZip, filter_map}
 use Rattle.std.specs.Map.{keys_of}
@@ -77,10 +77,9 @@ module _ {K N O V P R : Type 0} {cmp : K → K → Ordering} {order : N → N �
       closed_some (o ∷ os) (e ∷ es) [] among z y = absurd y
       closed_some (o ∷ os) (e ∷ es) (c ∷ closed) among z y =
           let same : e.0 ≡ o.0 = (node_of o e z.0).key_is in
-          let here : contains cmp (keys_of nodes) e.0 ≡ true = among e.0 (or_left (is_at (cmp e.0) e.0) (contains cmp (keys_of es) e.0) (same_view seen e.0 e.0 refl)) in
-          (
+          let here : contains cmp (keys_of nodes) e.0 ≡ true = among e.0 (or_left (is_at (cmp e.0) e.0) (contains cmp (keys_of es) e.0) (same_view seen e.0 e.0 refl)) in (
             make o e c z.0 y.0.place y.0.same_key y.0.same_rest
-            (subst (λ k. IsSetOf order (λ low. Reaches Steps low (view k)) (map view (edges c.1))) same (closed_set seen edges Steps nodes (nodes_are outlines nodes zipped) stands e.0 (edges c.1) here y.0.leads)),
+                (subst (λ k. IsSetOf order (λ low. Reaches Steps low (view k)) (map view (edges c.1))) same (closed_set seen edges Steps nodes (nodes_are outlines nodes zipped) stands e.0 (edges c.1) here y.0.leads)),
             closed_some os es closed (λ k h. among k (or_right (is_at (cmp k) e.0) (contains cmp (keys_of es) k) h)) z.1 y.1,
           )
 

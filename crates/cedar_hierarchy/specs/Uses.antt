@@ -4,7 +4,6 @@ use Rattle.std.specs.Prelude.{List, [], Option, Some, None}
 use Rattle.std.specs.declared.cmp.Ordering.{Ordering}
 use Rattle.std.specs.declared.cmp.Ordering.TheVariants.{Less, Greater}
 use Rattle.cedar_data.specs.Maps.{get}
-use Rattle.cedar_names.specs.EntityUids.{eid_of, eid_text, entity_type_of}
 use Rattle.cedar_names.specs.Names.{entity_cmp}
 use Rattle.cedar_schema_error.specs.FullNames.{uid_cmp, uid_in}
 use Rattle.cedar_schema_error.specs.declared.use_place.UsePlace.{UsePlace}

@@ -29,11 +29,7 @@ pub(crate) fn copy_at(alloc: Global, uses: &Uses, place: &UsePlace) -> Mem<Optio
 }
 
 /// The attributes of the record that stands at a use, and whether it may have others: none where no record stands.
-pub(crate) fn record_at(
-    alloc: Global,
-    uses: &Uses,
-    place: &UsePlace,
-) -> Mem<(Attributes, OpenTag)>
+pub(crate) fn record_at(alloc: Global, uses: &Uses, place: &UsePlace) -> Mem<(Attributes, OpenTag)>
     ensures { IfOk result (λ r. r ≡ record_at_use (type_at_use uses.now place.now)) }
 {
     if let Some(ty) = type_at(uses, place) {
@@ -41,5 +37,8 @@ pub(crate) fn record_at(
             return Ok((attributes.dup(alloc)?, tag));
         }
     }
-    Ok((Attributes::from_map(Map::new(alloc)), OpenTag::ClosedAttributes))
+    Ok((
+        Attributes::from_map(Map::new(alloc)),
+        OpenTag::ClosedAttributes,
+    ))
 }

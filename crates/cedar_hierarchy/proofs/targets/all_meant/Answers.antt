@@ -1,5 +1,5 @@
 -- SPDX-License-Identifier: Apache-2.0
-use Rattle.std.proofs.Common.{◌≡◌, ◌||◌, ◌∙◌, sym, ap}
+use Rattle.std.proofs.Common.{◌||◌, ◌∙◌, sym, ap}
 use Rattle.std.specs.List.{list_any}
 use Rattle.cedar_data.specs.Sets.{contains}
 use Rattle.cedar_declared.specs.Held.{names_of}

@@ -10,5 +10,5 @@ use Rattle.cedar_hierarchy.proofs.targets.all_meant.Given as goal
 abbrev pub invariant-loop-reference : goal.invariant-loop-reference
 invariant-loop-reference g l =
     ((key : g.row.K.Denot) → (list_any (λ r. g.R.IsReference.is_meant (names_of l.all_defs) r key) l.reference-iterator || contains g.K.Ord.cmp l.keys key)
-        ≡ list_any (λ r. g.R.IsReference.is_meant (names_of l.all_defs) r key) l.references)
+    ≡ list_any (λ r. g.R.IsReference.is_meant (names_of l.all_defs) r key) l.references)
     × IsStrictlySortedBy g.K.Ord.cmp l.keys
