@@ -1,0 +1,12 @@
+-- SPDX-License-Identifier: Apache-2.0
+pub mod Aligned
+pub mod Answering
+pub mod ChildrenLemmas
+pub mod Closing
+pub mod Hierarchies
+pub mod HierarchiesMade
+pub mod Meant
+pub mod Membership
+pub mod NamesSeen
+pub mod TypesMeant
+pub mod Views

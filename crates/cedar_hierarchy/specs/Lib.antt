@@ -1,0 +1,9 @@
+-- SPDX-License-Identifier: Apache-2.0
+pub mod Children
+pub mod Made
+pub mod Members
+pub mod Nodes
+pub mod Outlined
+pub mod Parents
+pub mod Targets
+pub mod Uses

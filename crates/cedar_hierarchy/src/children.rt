@@ -1,0 +1,72 @@
+// SPDX-License-Identifier: Apache-2.0
+ghost use Rattle.std.specs.Prelude.{◌≡◌, ◌&&◌, ◌||◌, None, cond, IfOk, OnOk};
+ghost use Rattle.std.specs.BTreeMap.{is_at};
+ghost use Rattle.cedar_data.specs.Maps.{get};
+ghost use Rattle.cedar_data.specs.Sets.{contains};
+ghost use Rattle.cedar_hierarchy.specs.Children.{children_at, is_child};
+
+use cedar_data::{Dup, Mem, Set};
+use std::alloc::Global;
+use std::collections::BTreeMap;
+
+/// The children of each key that is a parent.
+pub(crate) type Children<K> = BTreeMap<K, Set<K>>;
+
+/// Takes the children of a key out.
+fn take_children<K: Ord + Drop>(alloc: Global, parent: &K, children: &mut Children<K>) -> Set<K>
+    ensures taken { result ≡ children_at K.cmp children.old.entries parent.now }
+    ensures others { (other : K) → get K.cmp children.new.entries other ≡ cond (is_at (K.cmp parent.now) other) None (get K.cmp children.old.entries other) }
+{
+    match children.remove(parent) {
+        Some(found) => found,
+        None => Set::new(alloc),
+    }
+}
+
+/// Puts a child under a parent.
+fn add_child<K: Ord + Drop>(
+    alloc: Global,
+    parent: K,
+    child: K,
+    children: &mut Children<K>,
+) -> Mem<()>
+    ensures { OnOk result ((p c : K) → is_child K.cmp children.new.entries p c
+        ≡ ((is_at (K.cmp p) parent && is_at (K.cmp child) c) || is_child K.cmp children.old.entries p c)) }
+{
+    let mut siblings = take_children(alloc, &parent, children);
+    siblings.insert(child)?;
+    children.insert(parent, siblings)?;
+    Ok(())
+}
+
+/// Puts a child under each of its parents.
+pub(crate) fn link<K: Ord + Dup + Drop>(
+    alloc: Global,
+    parents: &Set<K>,
+    child: &K,
+    children: &mut Children<K>,
+) -> Mem<()>
+    ensures { OnOk result ((p c : K) → is_child K.cmp children.new.entries p c
+        ≡ ((contains K.cmp parents.now p && is_at (K.cmp child.now) c) || is_child K.cmp children.old.entries p c)) }
+{
+    for parent in parents.iter() {
+        let parent = parent.dup(alloc)?;
+        let child = child.dup(alloc)?;
+        add_child(alloc, parent, child, children)?;
+    }
+    Ok(())
+}
+
+/// The children of a key.
+pub(crate) fn children_of<K: Ord + Dup + Drop>(
+    alloc: Global,
+    parent: &K,
+    children: &Children<K>,
+) -> Mem<Set<K>>
+    ensures { IfOk result (λ found. found ≡ children_at K.cmp children.now.entries parent.now) }
+{
+    match children.get(parent) {
+        Some(found) => found.dup(alloc),
+        None => Ok(Set::new(alloc)),
+    }
+}
