@@ -1,7 +1,7 @@
 -- SPDX-License-Identifier: Apache-2.0
 -- From the entity types and actions that are made to those that the world denotes.
 use Rattle.std.proofs.Common.{◌≡◌, ◌&&◌, ℕ, Bool, true, false, not, IsTrue, List, [], ◌∷◌, map, Option, Some, None, refl, sym, ap, ◌∙◌, subst}
-use Rattle.std.specs.List.{AllZip, filter_map}
+use Rattle.std.specs.List.{AllZip, filter_map, flat_map}
 use Rattle.std.specs.Option.{option_map}
 use Rattle.cedar_data.specs.Firsts.{AllPass}
 use Rattle.cedar_data.specs.Maps.{IsSortedMap, get}
@@ -39,7 +39,7 @@ use Rattle.cedar_sound.proofs.NameOrders.{names_exact, uids_exact}
 use Rattle.cedar_sound.proofs.NothingMissed.{AreFree}
 use Rattle.cedar_sound.proofs.SortedMaps.{found-each, sorted-map_of}
 use Rattle.cedar_sound.proofs.UsesFound.{context_found, no_tags_found, shape_found, tags_found}
-use Rattle.cedar_tables.specs.Outlines.{action_outline, action_outline_in, choices_of, entity_outline, entity_outline_in}
+use Rattle.cedar_tables.specs.Outlines.{ActionParts, EntityParts, action_outline, action_outline_in, choices_of, entity_outline, entity_outline_in}
 use Rattle.cedar_tables.specs.declared.outlines.ActionOutline.{ActionOutline}
 use Rattle.cedar_tables.specs.declared.outlines.EntityOutline.{EntityOutline}
 use Rattle.cedar_text.specs.Lists.{elements}
@@ -56,7 +56,7 @@ use Rattle.cedar_unfold.specs.Written.{Written}
 use Rattle.cedar_world.specs.Definitions.{ActionDefinition, EntityDefinition, Enumerated, Standard}
 use Rattle.cedar_world.specs.Denotes.{AreTargets, DenotesAction, DenotesEntity, DenotesKind, DenotesTags}
 use Rattle.cedar_world.specs.Descents.{ActionDescendsFrom, DescendsFrom}
-use Rattle.cedar_world.specs.Worlds.{World, actions, entity_types, job, meanings, names, uses}
+use Rattle.cedar_world.specs.Worlds.{World, actions, all_namespaces, entity_types, job, meanings, names, uses}
 
 same_inside : {A : Type 0} (x y : A) → Some x ≡ Some y → x ≡ y
 same_inside x y e = cc
@@ -70,10 +70,10 @@ no_none x e = absurd (cc)
 module _ (W : World) (all_defs : AllDefs) (ds : List Definition) (X : Extensions) (h : Holds W all_defs ds X)
     (used : Uses) (unfolded : AllZip (UnfoldsAt (job W)) (uses W) (by_place resolved used)) (passes : AllPass (UsePasses (meanings W)) (uses W)) where
   types_sorted : IsSortedMap words_cmp (entity_types W)
-  types_sorted = sorted-map_of names_exact.total _
+  types_sorted = sorted-map_of names_exact.total (flat_map (λ ns. ns.entity_types) (all_namespaces W))
 
   actions_sorted : IsSortedMap uid_cmp (actions W)
-  actions_sorted = sorted-map_of uids_exact.total _
+  actions_sorted = sorted-map_of uids_exact.total (flat_map (λ ns. ns.actions) (all_namespaces W))
 
   -- ---- entity types
 
@@ -141,10 +141,10 @@ module _ (W : World) (all_defs : AllDefs) (ds : List Definition) (X : Extensions
       (subst (λ (t : NameReference → Option FullName). IsSetOf words_cmp (λ n. IsTrue (contains words_cmp (filter_map t refs) n && not (has_cedar n))) ns) same set)
 
   module _ (acts : List (EntityUID × ActionOutline)) (acts_are : map action_outline_in acts ≡ map action_outline (actions W)) where
-    Free : Uid × ActionDefinition NameReference ActionReference → Type 0
+    abbrev pub Free : Uid × ActionDefinition NameReference ActionReference → Type 0
     Free d = AreFree (names W) (targets (names W) d.1.principals) × AreFree (names W) (targets (names W) d.1.resources)
 
-    Known : Uid × ActionDefinition NameReference ActionReference → Type 0
+    abbrev pub Known : Uid × ActionDefinition NameReference ActionReference → Type 0
     Known d = (get uid_cmp (actions W) d.0 ≡ Some d.1) × Free d
 
     context_by : (u : EntityUID) (context : ResolvedType) (d : ActionDefinition NameReference ActionReference) → get uid_cmp (actions W) (uid_in u) ≡ Some d
@@ -183,14 +183,14 @@ module _ (W : World) (all_defs : AllDefs) (ds : List Definition) (X : Extensions
         action_denoted acts (actions W) made acts_are (both_pass (λ d. get uid_cmp (actions W) d.0 ≡ Some d.1) Free (actions W) (found-each uids_exact.total (actions W) actions_sorted) free) zip
 
 -- each stands under its name
-pub types_named : {names : Names} {os : _} {used : Uses} (types : List (EntityType × EntityOutline)) (made : List (EntityType × ValidatorEntityType)) → AllZip (MakesEntity names os used) types made → AllPass (λ e. type_name e.1 ≡ e.0) made
-types_named [] [] z = tt
-types_named [] (m ∷ made) z = absurd z
-types_named (t ∷ types) [] z = absurd z
-types_named (t ∷ types) (m ∷ made) z = (z.0.described.named ∙ sym z.0.described.key, types_named types made z.1)
+pub types_named : (declared : Names) (os : List (FullName × EntityParts)) (used : Uses) (types : List (EntityType × EntityOutline)) (made : List (EntityType × ValidatorEntityType)) → AllZip (MakesEntity declared os used) types made → AllPass (λ e. type_name e.1 ≡ e.0) made
+types_named declared os used [] [] z = tt
+types_named declared os used [] (m ∷ made) z = absurd z
+types_named declared os used (t ∷ types) [] z = absurd z
+types_named declared os used (t ∷ types) (m ∷ made) z = (z.0.described.named ∙ sym z.0.described.key, types_named declared os used types made z.1)
 
-pub actions_named : {names : Names} {os : _} {used : Uses} (acts : List (EntityUID × ActionOutline)) (made : List (EntityUID × ValidatorActionId)) → AllZip (MakesAction names os used) acts made → AllPass (λ a. action_name a.1 ≡ a.0) made
-actions_named [] [] z = tt
-actions_named [] (m ∷ made) z = absurd z
-actions_named (a ∷ acts) [] z = absurd z
-actions_named (a ∷ acts) (m ∷ made) z = (z.0.described.named ∙ sym z.0.described.key, actions_named acts made z.1)
+pub actions_named : (declared : Names) (os : List (Uid × ActionParts)) (used : Uses) (acts : List (EntityUID × ActionOutline)) (made : List (EntityUID × ValidatorActionId)) → AllZip (MakesAction declared os used) acts made → AllPass (λ a. action_name a.1 ≡ a.0) made
+actions_named declared os used [] [] z = tt
+actions_named declared os used [] (m ∷ made) z = absurd z
+actions_named declared os used (a ∷ acts) [] z = absurd z
+actions_named declared os used (a ∷ acts) (m ∷ made) z = (z.0.described.named ∙ sym z.0.described.key, actions_named declared os used acts made z.1)

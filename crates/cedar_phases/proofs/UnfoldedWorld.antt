@@ -34,13 +34,13 @@ use Rattle.cedar_text.specs.Words.{has_word}
 use Rattle.cedar_unfold.specs.Full.{by_place, job_of}
 use Rattle.cedar_unfold.specs.Resolved.{Resolved}
 use Rattle.cedar_unfold.specs.Tables.{by_name}
-use Rattle.cedar_unfold.specs.UnfoldPhases.{IsUnfolded, Unfoldable, WhyNotUnfoldable, full_job}
+use Rattle.cedar_unfold.specs.UnfoldPhases.{IsUnfolded, Unfoldable, UsePasses, WhyNotUnfoldable, full_job}
 use Rattle.cedar_unfold.specs.Written.{Written, references}
 use Rattle.cedar_unfold.specs.WrittenViews.{written_type}
 use Rattle.cedar_world.specs.DefinitionViews.{common_type_in, type_in}
 use Rattle.cedar_world.specs.Missing.{first_alone, missing_in, missing_types}
 use Rattle.cedar_world.specs.Qualified.{QualifiesAt, QualifiesJob}
-use Rattle.cedar_world.specs.Worlds.{World, all_namespaces, common_types, job, names, uses}
+use Rattle.cedar_world.specs.Worlds.{World, all_namespaces, common_types, job, meanings, names, uses}
 use Rattle.cedar_written.specs.Answers.{all_values}
 use Rattle.cedar_written.specs.Through.{through_type}
 use Rattle.cedar_written.specs.declared.conditional_name.ConditionalName.{ConditionalName}
@@ -97,3 +97,8 @@ module _ (W : World) (all_defs : AllDefs) (ds : List Definition) (X : Extensions
     pub unfolded : (cs : List (FullName × Resolved)) (us : List (refusal.UsePlace × Resolved)) → IsUnfolded (job_of (by_name written_full full) (by_place written_full full_uses) X) cs us → IsUnfolded (job W) cs us
     unfolded cs us u = unfolded_back (job W) (by_name written_full full) (by_place written_full full_uses) qualifies cs us
         (subst (λ known. IsUnfolded (full_job (by_name written_full full) (by_place written_full full_uses) known) cs us) extensions_same u)
+
+-- each use of an unfoldable world passes
+pub uses_pass : (W : World) → Passes W Unfolding → AllPass (UsePasses (meanings W)) (uses W)
+unfolding Unfoldable
+uses_pass W h = h.1.1.1.0

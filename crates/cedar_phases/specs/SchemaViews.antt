@@ -52,6 +52,10 @@ action_in a = (uid_in a.0, action_of a.1)
 abbrev pub schema_in : ValidatorSchema → Schema
 schema_in S = record { entity_types = map entity_in (types S); actions = map action_in (action_types S) }
 
+-- the entity types of a schema under their names
+abbrev pub types_of : ValidatorSchema → List (EntityType × ValidatorEntityType)
+types_of S = types S
+
 -- each entity type and each action stands under its own name
 pub record IsNamed (S : ValidatorSchema) : Type 0 where
   pub entity_types : AllPass (λ e. type_name e.1 ≡ e.0) (types S)

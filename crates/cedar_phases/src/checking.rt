@@ -44,6 +44,8 @@ pub(crate) fn check_definitions(
     ensures passes { IfOk result (λ _. (W : World) (X : Extensions) → Holds W all_defs.now (definitions_of definitions.now) X → AllPassed W early_phases) }
     ensures refused { IfRefused result (λ e. (W : World) (X : Extensions) → Holds W all_defs.now (definitions_of definitions.now) X → OneRefuses W early_phases (told e)) }
 {
-    refuse_missing(alloc, all_defs, definitions)?;
-    refuse_duplicates(alloc, definitions.definitions())
+    match refuse_missing(alloc, all_defs, definitions) {
+        Ok(()) => refuse_duplicates(alloc, definitions.definitions()),
+        Err(failure) => Err(failure),
+    }
 }
