@@ -1,2 +1,4 @@
 -- SPDX-License-Identifier: Apache-2.0
 pub mod Outlines
+pub mod Declarations
+pub mod Splits

@@ -2,7 +2,6 @@
 -- What is left of entity types and of actions without their types, and uses of types, places aside.
 use Rattle.std.specs.Prelude.{ℕ, List, Option, Some, None, map}
 use Rattle.std.specs.Option.{option_map}
-use Rattle.cedar_fragment.specs.ActionUids.{over_conditional}
 use Rattle.cedar_names.specs.Names.{entity_words}
 use Rattle.cedar_names.specs.declared.entity_uid.EntityUID.{EntityUID}
 use Rattle.cedar_names.specs.declared.name.EntityType.{EntityType}
@@ -12,6 +11,7 @@ use Rattle.cedar_schema_error.specs.Refusals.{UsePlace}
 use Rattle.cedar_schema_error.specs.Told.{told_use}
 use Rattle.cedar_schema_error.specs.declared.use_place.UsePlace as code
 use Rattle.cedar_text.specs.Lists.{elements}
+use Rattle.cedar_text.specs.declared.location.Loc.{Loc}
 use Rattle.cedar_types.specs.declared.ty.Attributes.{Attributes}
 use Rattle.cedar_types.specs.declared.value.ValueMap.{ValueMap}
 use Rattle.cedar_unfold.specs.Written.{Written}
@@ -81,6 +81,13 @@ entity_outline_in e = (entity_words e.0, parts_of_entity e.1)
 
 abbrev pub action_outline_in : EntityUID × ActionOutline → Uid × ActionParts
 action_outline_in a = (uid_in a.0, parts_of_action a.1)
+
+-- the place of an entity type and of an action
+abbrev pub entity_place : EntityType × EntityOutline → EntityType × Option Loc
+entity_place e = (e.0, e.1.loc)
+
+abbrev pub action_place : EntityUID × ActionOutline → EntityUID × Option Loc
+action_place a = (a.0, a.1.loc)
 
 -- the use of a type
 abbrev pub use_in : code.UsePlace × SchemaType ConditionalName → UsePlace × Written NameReference

@@ -1,8 +1,12 @@
 // SPDX-License-Identifier: Apache-2.0
-//! Definitions taken apart into tables: common types by name, uses of types by place, and what is left of each entity
-//! type and each action without its types.
+//! Definitions taken apart into tables: common types by name, uses of types by place, and what is
+//! left of each entity type and each action without its types.
 #![tactic(auto)]
 
+mod apart;
+mod declarations;
 mod outlines;
+mod splits;
 
+pub use apart::tables_of;
 pub use outlines::{ActionOutline, EntityOutline, Tables};
