@@ -21,7 +21,7 @@ use Rattle.cedar_written.specs.declared.raw_name.RawName.{RawName}
 use Rattle.cedar_written.specs.declared.reference_type.ReferenceType.TheVariants as kind
 use Rattle.cedar_written.specs.declared.ty.TypeVariant.TheVariants as variant
 use Rattle.cedar_fragment.specs.ActionUids.{over_conditional, over_raw, type_in, uid_of}
-use Rattle.cedar_fragment.specs.Definitions.{through_action, through_apply, through_shape, through_uid}
+use Rattle.cedar_fragment.specs.Definitions.{through_apply, through_shape, through_uid}
 use Rattle.cedar_fragment.specs.declared.action_uid.ActionEntityUID.{ActionEntityUID}
 use Rattle.cedar_fragment.specs.declared.definitions.ActionType.{ActionType}
 use Rattle.cedar_fragment.specs.declared.definitions.ApplySpec.{ApplySpec}
@@ -36,7 +36,7 @@ use Rattle.cedar_convert_fragment.specs.Views.{action_seen, apply_seen, name_at,
 use Rattle.cedar_fragment_world.specs.FragmentWorlds as worlds
 use Rattle.cedar_fragment_world.specs.FragmentWorlds.{action_of, action_reference, action_reference_cmp, actions_of, context_of, entity_types_of, principals_of, reference, resources_of}
 use Rattle.cedar_fragment_world.proofs.EntitiesSeen.{names_alike, shape_alike}
-use Rattle.cedar_fragment_world.proofs.Lists.{seen_twice, sets_alike}
+use Rattle.cedar_fragment_world.proofs.Lists.{sets_alike}
 use Rattle.cedar_fragment_world.proofs.NamesSeen.{in_order, referred, words_of}
 use Rattle.cedar_fragment_world.proofs.SureSteps.{sure_items, sure_one, sure_three, sure_two}
 
@@ -69,7 +69,7 @@ module _ (ns : Option InternalName) where
   apply_made a =
       sure_one (through_apply (qualifying ns) a) Some
       ∙ ap Some (sure_three (through_names (qualifying ns) kind.Entity a.resource_types) (through_names (qualifying ns) kind.Entity a.principal_types) (through_shape (qualifying ns) a.context)
-          (λ resource_types principal_types context. record { resource_types = resource_types; principal_types = principal_types; context = context }))
+      (λ resource_types principal_types context. record { resource_types = resource_types; principal_types = principal_types; context = context }))
 
   principals_alike : (a : Option (ApplySpec RawName)) → map reference_of (set_of conditional_cmp (principals_in (applied a))) ≡ entity_types_of (words_of ns) (principals_of (option_map apply_seen a))
   principals_alike None = refl
@@ -108,8 +108,7 @@ module _ (ns : Option InternalName) where
   parents_alike None = refl
   parents_alike (Some us) =
       ap (λ made. map action_reference_of (parents_in (parent_cmp conditional_cmp) made)) (sure_one (through_uids us) Some ∙ ap Some (sure_items (through_uid over_raw over_conditional (qualifying ns)) us))
-      ∙ sets_alike uid_order (parent_cmp conditional_cmp) action_reference_cmp made_uid (λ u. action_reference (words_of ns) (parent_seen u)) action_reference_of made_order seen_order uid_alike us
-      ∙ ap (set_of action_reference_cmp) (λ i. seen_twice (action_reference (words_of ns)) parent_seen (λ u. action_reference (words_of ns) (parent_seen u)) (λ u. refl) us i)
+      ∙ sets_alike uid_order (parent_cmp conditional_cmp) action_reference_cmp made_uid parent_seen (action_reference (words_of ns)) action_reference_of made_order seen_order uid_alike us
     where
       made_order : (u v : ActionEntityUID RawName over_raw) → uid_order u v ≡ parent_cmp conditional_cmp (made_uid u) (made_uid v)
       made_order u v = ap (λ o. ordering_then o (word_cmp u.id v.id)) (in_order ns kind.Entity (type_name u) (type_name v))
@@ -123,7 +122,7 @@ module _ (ns : Option InternalName) where
   action_alike a =
       ap (λ made. views.action_of (action_made conditional_cmp (types_in a.attributes) made)) (
       sure_two (in_option (option_map (through_apply (qualifying ns)) a.applies_to)) (in_option (option_map through_uids a.member_of))
-          (λ applies_to member_of. record { attributes = a.attributes; applies_to = applies_to; member_of = member_of; annotations = a.annotations; loc = a.loc }))
+      (λ applies_to member_of. record { attributes = a.attributes; applies_to = applies_to; member_of = member_of; annotations = a.annotations; loc = a.loc }))
       ∙ (λ i. record {
         parents = parents_alike a.member_of i;
         principals = principals_alike a.applies_to i;

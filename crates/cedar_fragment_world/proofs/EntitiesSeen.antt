@@ -4,9 +4,7 @@ use Rattle.std.proofs.Common.{◌≡◌, List, map, Option, option_map, refl, ap
 use Rattle.cedar_data.specs.Sets.{set_of}
 use Rattle.cedar_names.specs.Components.{components}
 use Rattle.cedar_names.specs.Order.{words_cmp}
-use Rattle.cedar_names.specs.declared.annotation.Annotations.{Annotations}
 use Rattle.cedar_names.specs.declared.internal_name.InternalName.{InternalName}
-use Rattle.cedar_text.specs.declared.location.Loc.{Loc}
 use Rattle.cedar_written.specs.Answers.{in_option}
 use Rattle.cedar_written.specs.Possibilities.{conditional, written}
 use Rattle.cedar_written.specs.Qualifying.{qualifying}
@@ -29,7 +27,7 @@ use Rattle.cedar_world.specs.Definitions.{Standard}
 use Rattle.cedar_world.specs.DefinitionViews.{kind_in, type_in}
 use Rattle.cedar_convert_fragment.specs.Views.{kind_seen, name_at, type_seen}
 use Rattle.cedar_fragment_world.specs.FragmentWorlds.{entity_of, entity_types_of, reference, reference_cmp, type_of}
-use Rattle.cedar_fragment_world.proofs.Lists.{option_both, seen_twice, sets_alike}
+use Rattle.cedar_fragment_world.proofs.Lists.{option_both, sets_alike}
 use Rattle.cedar_fragment_world.proofs.NamesSeen.{in_order, referred, words_of}
 use Rattle.cedar_fragment_world.proofs.SureSteps.{sure_items, sure_one, sure_option, sure_three}
 use Rattle.cedar_fragment_world.proofs.TypesSeen.{type_alike}
@@ -39,12 +37,8 @@ module _ (ns : Option InternalName) where
   pub names_alike : (names : List RawName) → map reference_of (set_of conditional_cmp (sure (through_names (qualifying ns) kind.Entity names))) ≡ entity_types_of (words_of ns) (map name_at names)
   names_alike names =
       ap (λ made. map reference_of (set_of conditional_cmp made)) (sure_items (λ name. qualifying ns (named kind.Entity name)) names)
-      ∙ sets_alike (λ a b. words_cmp (components (written a)) (components (written b))) conditional_cmp reference_cmp (conditional ns kind.Entity) (λ name. reference (words_of ns) kind.Entity (name_at name)) reference_of
-          (in_order ns kind.Entity) (λ a b. refl) (referred ns kind.Entity) names
-      ∙ ap (set_of reference_cmp) (back names)
-    where
-      back : (names : List RawName) → map (λ name. reference (words_of ns) kind.Entity (name_at name)) names ≡ map (reference (words_of ns) kind.Entity) (map name_at names)
-      back names = λ i. seen_twice (reference (words_of ns) kind.Entity) name_at (λ name. reference (words_of ns) kind.Entity (name_at name)) (λ name. refl) names i
+      ∙ sets_alike (λ a b. words_cmp (components (written a)) (components (written b))) conditional_cmp reference_cmp (conditional ns kind.Entity) name_at (reference (words_of ns) kind.Entity) reference_of
+      (in_order ns kind.Entity) (λ a b. refl) (referred ns kind.Entity) names
 
   -- a shape or a context
   pub shape_alike : (s : AttributesOrContext RawName) → type_in (sure (through_shape (qualifying ns) s)).0 ≡ type_of (words_of ns) (type_seen s.0)
@@ -60,7 +54,7 @@ module _ (ns : Option InternalName) where
   standard_alike e =
       ap (λ e. kind_in (standard_made conditional_cmp e)) (
       sure_three (through_names (qualifying ns) kind.Entity e.member_of_types) (through_shape (qualifying ns) e.shape) (in_option (option_map (through_type (qualifying ns)) e.tags))
-          (λ member_of_types shape tags. record { member_of_types = member_of_types; shape = shape; tags = tags }))
+      (λ member_of_types shape tags. record { member_of_types = member_of_types; shape = shape; tags = tags }))
       ∙ (λ i. Standard (names_alike e.member_of_types i) (shape_alike e.shape i) (tags_alike e.tags i))
 
   kind_alike : (k : EntityTypeKind RawName) → kind_in (kind_made conditional_cmp (sure (through_kind (qualifying ns) k))) ≡ entity_of (words_of ns) (kind_seen k)

@@ -1,6 +1,6 @@
 -- SPDX-License-Identifier: Apache-2.0
 -- The faults of a fragment are those of what it declares.
-use Rattle.std.proofs.Common.{◌≡◌, ◌++◌, ℕ, List, map, Option, Some, None, option_map, is_some, codes, refl, ap, ◌∙◌}
+use Rattle.std.proofs.Common.{◌≡◌, ◌++◌, ℕ, List, Option, Some, None, option_map, is_some, codes, refl, ap, ◌∙◌}
 use Rattle.std.specs.Str.{bytes_eq}
 use Rattle.cedar_names.specs.Components.{components}
 use Rattle.cedar_names.specs.Identifiers.{id_of, unreserved_word}
@@ -15,14 +15,14 @@ use Rattle.cedar_fragment.specs.declared.definitions.ActionType.{ActionType}
 use Rattle.cedar_fragment.specs.declared.definitions.EntityType.{EntityType}
 use Rattle.cedar_fragment.specs.declared.definitions.NamespaceDefinition.{NamespaceDefinition}
 use Rattle.cedar_schema_error.specs.FullNames.{FullName}
-use Rattle.cedar_schema_error.specs.Refusals.{Refusal, ActionEntityTypeDeclared}
+use Rattle.cedar_schema_error.specs.Refusals.{ActionEntityTypeDeclared}
 use Rattle.cedar_schema_error.specs.declared.action_behavior.ActionBehavior.{ActionBehavior}
 use Rattle.cedar_namespace_definitions.specs.Faults as held
 use Rattle.cedar_namespace_definitions.specs.Faults.{attribute_faults, prohibited}
 use Rattle.cedar_namespace_definitions.specs.NamesIn as held_names
-use Rattle.cedar_convert_fragment.specs.Fragments.{ActionContent, Declared, Definition, EntityContent}
+use Rattle.cedar_convert_fragment.specs.Fragments.{ActionContent, Declared, EntityContent}
 use Rattle.cedar_convert_fragment.specs.Views.{action_seen, definition_seen, entity_seen, namespace_words, namespaces_seen}
-use Rattle.cedar_fragment_world.specs.FragmentFaults.{action_faults, declaration_faults, definition_faults, each_fault, entity_faults, fragment_faults, reserved_in}
+use Rattle.cedar_fragment_world.specs.FragmentFaults.{action_faults, declaration_faults, definition_faults, entity_faults, fragment_faults, reserved_in}
 use Rattle.cedar_fragment_world.proofs.Lists.{seen_lists, seen_passing}
 use Rattle.cedar_fragment_world.proofs.NamesSeen.{named, words_of, words_seen}
 
@@ -67,4 +67,4 @@ module _ (ns : Option InternalName) where
 pub faults_alike : (behavior : ActionBehavior) (ns : List (Option Name × NamespaceDefinition RawName over_raw)) → held.fragment_faults behavior (record { 0 = ns }) ≡ fragment_faults behavior (namespaces_seen ns)
 faults_alike behavior ns =
     seen_lists (λ n. held.definition_faults behavior (option_map internal_of n.0) n.1) (definition_faults behavior) (λ n. (namespace_words n.0, definition_seen n.1))
-        (λ n. definition_alike (option_map internal_of n.0) behavior n.1 ∙ ap (λ name. definition_faults behavior (name, definition_seen n.1)) (words_seen n.0)) ns
+    (λ n. definition_alike (option_map internal_of n.0) behavior n.1 ∙ ap (λ name. definition_faults behavior (name, definition_seen n.1)) (words_seen n.0)) ns

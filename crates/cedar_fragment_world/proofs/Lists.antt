@@ -60,7 +60,9 @@ module _ {A B : Type 0} (order : A → A → Ordering) (cmp : B → B → Orderi
   seen_set ks = from [] ks
 
 -- a set seen through another in the same order
-pub sets_alike : {A B C : Type 0} (order : A → A → Ordering) (cmp : B → B → Ordering) (cmp' : C → C → Ordering) (f : A → B) (g : A → C) (h : B → C)
-    → ((x y : A) → order x y ≡ cmp (f x) (f y)) → ((x y : A) → order x y ≡ cmp' (g x) (g y)) → ((x : A) → h (f x) ≡ g x) → (xs : List A) → map h (set_of cmp (map f xs)) ≡ set_of cmp' (map g xs)
-sets_alike order cmp cmp' f g h first second same xs =
-    ap (map h) (sym (seen_set order cmp f first xs)) ∙ seen_twice h f g same (set_of order xs) ∙ seen_set order cmp' g second xs
+pub sets_alike : {A B C D : Type 0} (order : A → A → Ordering) (cmp : B → B → Ordering) (cmp' : C → C → Ordering) (f : A → B) (see : A → D) (g : D → C) (h : B → C)
+    → ((x y : A) → order x y ≡ cmp (f x) (f y)) → ((x y : A) → order x y ≡ cmp' (g (see x)) (g (see y))) → ((x : A) → h (f x) ≡ g (see x)) → (xs : List A)
+    → map h (set_of cmp (map f xs)) ≡ set_of cmp' (map g (map see xs))
+sets_alike order cmp cmp' f see g h first second same xs =
+    ap (map h) (sym (seen_set order cmp f first xs)) ∙ seen_twice h f (λ x. g (see x)) same (set_of order xs) ∙ seen_set order cmp' (λ x. g (see x)) second xs
+    ∙ ap (set_of cmp') (sym (seen_twice g see (λ x. g (see x)) (λ x. refl) xs))

@@ -59,13 +59,13 @@ module _ (ns : Option InternalName) where
   namespace_is : (n : NamespaceDefinition RawName over_raw) (d : ValidatorNamespaceDef ConditionalName ConditionalName over_conditional) → IsDefinitionOf ns n d → namespace_in d ≡ namespace_of (words_of ns, definition_seen n)
   namespace_is n d is =
       let commons = ap (map common_type_in) is.common_types_are
-          ∙ seen_both common_type_in (defined.common_in ns) (common_at (words_of ns)) (λ c. (common_word c.0, common_seen c.1)) common_is n.common_types in
+      ∙ seen_both common_type_in (defined.common_in ns) (common_at (words_of ns)) (λ c. (common_word c.0, common_seen c.1)) common_is n.common_types in
       let entities = sym (seen_twice entity_told (λ e. (entity_key e.0, e.1)) views.entity_type_in (λ e. refl) d.entity_types.defs)
-          ∙ ap (map entity_told) is.entity_types_are.types_are
-          ∙ seen_both entity_told (defined.entity_in ns) (entity_at (words_of ns)) (λ e. (unreserved_word e.0, entity_seen e.1)) entity_is n.entity_types in
+      ∙ ap (map entity_told) is.entity_types_are.types_are
+      ∙ seen_both entity_told (defined.entity_in ns) (entity_at (words_of ns)) (λ e. (unreserved_word e.0, entity_seen e.1)) entity_is n.entity_types in
       let actions = sym (seen_twice action_told (λ a. (action_key a.0, a.1)) views.action_in (λ a. refl) d.actions.actions)
-          ∙ ap (map action_told) is.actions_are
-          ∙ seen_both action_told (defined.action_in ns) (action_at (words_of ns)) (λ a. (a.0, action_seen a.1)) action_is n.actions in
+      ∙ ap (map action_told) is.actions_are
+      ∙ seen_both action_told (defined.action_in ns) (action_at (words_of ns)) (λ a. (a.0, action_seen a.1)) action_is n.actions in
       λ i. record { common_types = commons i; entity_types = entities i; actions = actions i }
 
 -- those of all namespaces

@@ -13,13 +13,17 @@ ghost use Rattle.cedar_world.specs.DefinitionViews.{namespace_in};
 ghost use Rattle.cedar_written.specs.declared.conditional_name.ConditionalName.{ConditionalName};
 ghost use Rattle.cedar_written.specs.declared.raw_name.RawName.{RawName};
 
-/// A law with no work to do: the definitions that a fragment becomes define the namespaces that the fragment denotes.
+/// A law: the definitions that a fragment becomes define the namespaces that the fragment denotes.
+/// It does nothing when it runs.
 pub fn worlds_of_fragments()
-    ensures { (f : Fragment RawName over_raw) (ds : List (ValidatorNamespaceDef ConditionalName ConditionalName over_conditional))
+    ensures { (f : Fragment RawName over_raw)
+        → (ds : List (ValidatorNamespaceDef ConditionalName ConditionalName over_conditional))
         → AreDefinitionsOf f.0 ds → map namespace_in ds ≡ namespaces_of (fragment_seen f) }
 {}
 
-/// A law with no work to do: what is wrong with a fragment is told by what it declares, whatever holds it.
+/// A law: what is wrong with a fragment is told by what it declares, whatever holds it. It does
+/// nothing when it runs.
 pub fn faults_of_fragments()
-    ensures { (behavior : ActionBehavior) (f : Fragment RawName over_raw) → faults_held behavior f ≡ fragment_faults behavior (fragment_seen f) }
+    ensures { (behavior : ActionBehavior) (f : Fragment RawName over_raw)
+        → faults_held behavior f ≡ fragment_faults behavior (fragment_seen f) }
 {}

@@ -1,6 +1,6 @@
 // SPDX-License-Identifier: Apache-2.0
-//! The world that a fragment denotes, whatever holds the fragment, and the laws that it is the world of the definitions
-//! that the fragment becomes.
+//! The world that a fragment denotes, whatever holds the fragment, and what may be wrong with it;
+//! and laws: the definitions that the fragment becomes are of that world, and the faults the same.
 #![tactic(auto)]
 
 mod laws;
