@@ -95,17 +95,19 @@ abbrev pub entity_of : Option FullName → EntityContent → EntityDefinition Na
 entity_of ns (Shaped parents shape tags) = Standard (entity_types_of ns parents) (type_of ns shape) (option_map (type_of ns) tags)
 entity_of ns (Listed ids) = Enumerated ids
 
--- an action that says nothing of what it applies to applies to nothing, in the empty context
+-- what an action applies to names its principals; where it says nothing, there are none
 abbrev pub principals_of : Option AppliesTo → List NameAt
 principals_of a = option_map_or (λ a. a.principals) a []
 
+-- so with its resources
 abbrev pub resources_of : Option AppliesTo → List NameAt
 resources_of a = option_map_or (λ a. a.resources) a []
 
+-- its context; where it says nothing, the closed record without attributes
 abbrev pub context_of : Option FullName → Option AppliesTo → Written NameReference
 context_of ns a = option_map_or (λ a. type_of ns a.context) a (Record no_attributes false)
 
--- an action
+-- an action; the types of its attributes are told by their values
 abbrev pub action_of : Option FullName → ActionContent → ActionDefinition NameReference ActionReference
 action_of ns a = record {
   parents = actions_of ns (unwrap_or a.member_of []);
