@@ -1,6 +1,6 @@
 -- SPDX-License-Identifier: Apache-2.0
 -- From the pieces of a schema to what is said of the world.
-use Rattle.std.proofs.Common.{◌≡◌, ◌++◌, List, Option, Some, None, map, refl, sym, ap, ◌∙◌, subst}
+use Rattle.std.proofs.Common.{◌≡◌, ◌++◌, List, Some, None, map, sym, subst}
 use Rattle.std.specs.List.{AllZip, filter, flat_map}
 use Rattle.cedar_data.specs.Firsts.{AllPass, IsLeast}
 use Rattle.cedar_declared.specs.Held.{names_of}
@@ -21,7 +21,7 @@ use Rattle.cedar_phases.proofs.Descending.{action_descends_back, action_descends
 use Rattle.cedar_phases.proofs.Making.{actions_denoted, actions_named, entities_denoted, types_named}
 use Rattle.cedar_phases.proofs.Undeclaring.{undeclared_passes, undeclared_refuses}
 use Rattle.cedar_phases.proofs.UnfoldedWorld.{uses_pass}
-use Rattle.cedar_resolved.specs.Schemas.{action_name, action_types, type_name}
+use Rattle.cedar_resolved.specs.Schemas.{action_name, action_types}
 use Rattle.cedar_resolved.specs.declared.action.ValidatorActionId.{ValidatorActionId}
 use Rattle.cedar_resolved.specs.declared.schema.ValidatorSchema.{ValidatorSchema}
 use Rattle.cedar_schema_error.specs.FullNames.{FullName, Uid, uid_cmp}
@@ -78,7 +78,7 @@ module _ (W : World) (all_defs : AllDefs) (full : List (InternalName × SchemaTy
     entity_types = entities_denoted W all_defs h.definitions h.extensions h.holds used h.unfolded (uses_pass W h.unfolding_passes) types h.entity_types_are (types_of S) zip;
     actions = subst (λ (l : List (EntityUID × ValidatorActionId)). AllZip (DenotesAction W) (actions W) (map action_in l)) (sym is)
         (actions_denoted W all_defs h.definitions h.extensions h.holds used h.unfolded (uses_pass W h.unfolding_passes) acts h.actions_are
-          (applications_free (names W) (all_namespaces W) h.references.1.1.0) made acts_zip);
+        (applications_free (names W) (all_namespaces W) h.references.1.1.0) made acts_zip);
   }
 
 -- each stands under its name

@@ -1,7 +1,6 @@
 -- SPDX-License-Identifier: Apache-2.0
 -- From what checks of definitions answer to what is said of the world.
-use Rattle.std.proofs.Common.{◌≡◌, ◌++◌, List, [], ◌∷◌, map, Option, Some, None, inl, inr, refl, sym, ap, ◌∙◌, subst}
-use Rattle.std.specs.List.{flat_map}
+use Rattle.std.proofs.Common.{◌≡◌, ◌++◌, List, [], ◌∷◌, map, Some, None, inl, inr, refl, sym, ap, ◌∙◌, subst}
 use Rattle.std.specs.Map.{keys_of}
 use Rattle.std.proofs.lemmas.Option.{none-some}
 use Rattle.cedar_data.specs.Firsts.{AllPass, FirstAgain, FirstRefused, NoneAgain}
@@ -10,15 +9,15 @@ use Rattle.cedar_declared.specs.Names.{Names}
 use Rattle.cedar_declared.specs.declared.all_defs.AllDefs.{AllDefs}
 use Rattle.cedar_duplicates.specs.Duplicates.{Action, AreOnce, CommonType, Declared, EntityType, IsTwice, duplicate, same_declared}
 use Rattle.cedar_duplicates.specs.Duplicates as code
-use Rattle.cedar_missing.specs.Undeclared.{Parent, missing_in_definition, missing_in_each, refusal_by, refusal_of, reserved_refusal}
+use Rattle.cedar_missing.specs.Undeclared.{Parent, missing_in_definition, missing_in_each, refusal_by, refusal_of}
 use Rattle.cedar_names.specs.Components.{components}
 use Rattle.cedar_names.specs.Names.{entity_words}
 use Rattle.cedar_names.specs.declared.extensions.Extensions.{Extensions}
 use Rattle.cedar_names.specs.declared.internal_name.InternalName.{InternalName}
 use Rattle.cedar_phases.specs.Holding.{Definition, Holds}
 use Rattle.cedar_qualified.proofs.MissedDefinitions.{actions_missed, reserved_meant, types_missed}
-use Rattle.cedar_schema_error.specs.FullNames.{FullName, uid_in}
-use Rattle.cedar_schema_error.specs.NameReferences.{ActionReference, NameReference, action_reference_of, reference_of}
+use Rattle.cedar_schema_error.specs.FullNames.{uid_in}
+use Rattle.cedar_schema_error.specs.NameReferences.{action_reference_of, reference_of}
 use Rattle.cedar_schema_error.specs.Refusals.{Refusal}
 use Rattle.cedar_schema_error.specs.Told.{told}
 use Rattle.cedar_schema_error.specs.declared.schema_error.SchemaError.{SchemaError}

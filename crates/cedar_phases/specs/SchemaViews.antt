@@ -1,6 +1,6 @@
 -- SPDX-License-Identifier: Apache-2.0
 -- What a resolved schema is, places aside.
-use Rattle.std.specs.Prelude.{◌≡◌, List, Option, map}
+use Rattle.std.specs.Prelude.{◌≡◌, List, map}
 use Rattle.std.specs.Option.{option_map}
 use Rattle.cedar_data.specs.Firsts.{AllPass}
 use Rattle.cedar_names.specs.Names.{entity_words}

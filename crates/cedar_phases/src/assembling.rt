@@ -89,14 +89,7 @@ pub(crate) fn assemble(
 {
     let memberships = membership_names(alloc, all_defs, &entity_types, &actions)?;
     match resolved_actions(alloc, all_defs, actions, &types.uses) {
-        Ok(actions) => finish(
-            alloc,
-            all_defs,
-            types,
-            memberships,
-            entity_types,
-            actions,
-        ),
+        Ok(actions) => finish(alloc, all_defs, types, memberships, entity_types, actions),
         Err(failure) => Err(failure),
     }
 }

@@ -79,8 +79,18 @@ fn push_application(
     ensures { OnOk result (map components names.new.items ≡ map components names.old.items
         ++ targets (names_of all_defs.now) ((parts_of_action outline.now).principals ++ (parts_of_action outline.now).resources)) }
 {
-    push_targets(alloc, all_defs, &outline.applies_to.principal_apply_spec, names)?;
-    push_targets(alloc, all_defs, &outline.applies_to.resource_apply_spec, names)?;
+    push_targets(
+        alloc,
+        all_defs,
+        &outline.applies_to.principal_apply_spec,
+        names,
+    )?;
+    push_targets(
+        alloc,
+        all_defs,
+        &outline.applies_to.resource_apply_spec,
+        names,
+    )?;
     Ok(())
 }
 

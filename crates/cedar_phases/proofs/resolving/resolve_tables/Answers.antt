@@ -1,14 +1,12 @@
 -- SPDX-License-Identifier: Apache-2.0
-use Rattle.std.proofs.Common.{◌++◌, List, inl, inr}
-use Rattle.cedar_definitions.specs.Structures.{definitions_of}
-use Rattle.cedar_phases.specs.Holding.{AllPassed, AreTables, Definition, Holds, HoldsTypes, HoldsUnfolded, OneRefuses, early_phases, last_phases, later_phases, world_of}
-use Rattle.cedar_phases.specs.SchemaViews.{IsNamed, schema_in}
-use Rattle.cedar_phases.proofs.Carried.{carried, passed, passed_both, refused}
-use Rattle.cedar_phases.proofs.Composing.{cause_first, cause_later, refused_first, refused_later, sound_by}
+use Rattle.std.proofs.Common.{List, inl, inr}
+use Rattle.cedar_phases.specs.Holding.{AllPassed, AreTables, Definition, Holds, HoldsTypes, HoldsUnfolded, OneRefuses, last_phases, later_phases}
+use Rattle.cedar_phases.specs.SchemaViews.{schema_in}
+use Rattle.cedar_phases.proofs.Carried.{carried, passed, refused}
 use Rattle.cedar_phases.specs.declared.unfolding.UnfoldedTypes.{UnfoldedTypes}
 use Rattle.cedar_resolved.specs.declared.schema.ValidatorSchema.{ValidatorSchema}
 use Rattle.cedar_schema_error.specs.Told.{told}
-use Rattle.cedar_sound.specs.Sound.{Cause, Passes, References, RefusesAt, Shadowing, Sound, Unfolding}
+use Rattle.cedar_sound.specs.Sound.{Passes, References, RefusesAt, Unfolding}
 use Rattle.cedar_world.specs.Denotes.{Denotes}
 use Rattle.cedar_world.specs.Worlds.{World}
 use Rattle.cedar_phases.proofs.resolving.resolve_tables.Goals as goal
