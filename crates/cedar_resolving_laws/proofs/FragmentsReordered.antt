@@ -1,0 +1,20 @@
+-- SPDX-License-Identifier: Apache-2.0
+-- The same of fragments in another order.
+use Rattle.std.proofs.Common.{List}
+use Rattle.cedar_definitions.specs.Structures.{definitions_of}
+use Rattle.cedar_names.specs.declared.extensions.Extensions.{Extensions}
+use Rattle.cedar_phases.specs.Holding.{Fragment, world_of}
+use Rattle.cedar_resolving_laws.specs.Reordered.{Reordered}
+use Rattle.cedar_resolving_laws.proofs.Reordering.{flat_reordered, map_reordered}
+use Rattle.cedar_resolving_laws.proofs.WorldsReordered.{denotes_reordered, sound_reordered}
+use Rattle.cedar_sound.specs.Sound.{Sound}
+use Rattle.cedar_world.specs.DefinitionViews.{namespace_in}
+use Rattle.cedar_world.specs.Denotes.{Denotes}
+use Rattle.cedar_world.specs.Schemas.{Schema}
+
+module _ (fs gs : List Fragment) (X : Extensions) (r : Reordered fs gs) where
+  pub fragments_sound : Sound (world_of fs X) → Sound (world_of gs X)
+  fragments_sound = sound_reordered (world_of fs X) (world_of gs X).namespaces (map_reordered namespace_in (flat_reordered definitions_of r))
+
+  pub fragments_denote : (S : Schema) → Sound (world_of fs X) → Denotes (world_of fs X) S → Denotes (world_of gs X) S
+  fragments_denote = denotes_reordered (world_of fs X) (world_of gs X).namespaces (map_reordered namespace_in (flat_reordered definitions_of r))
