@@ -1,0 +1,9 @@
+-- SPDX-License-Identifier: Apache-2.0
+pub mod Lists
+pub mod SureSteps
+pub mod NamesSeen
+pub mod TypesSeen
+pub mod EntitiesSeen
+pub mod ActionsSeen
+pub mod NamespacesSeen
+pub mod FaultsSeen
