@@ -11,3 +11,4 @@ mod uses;
 
 pub use actions::resolved_actions;
 pub use entity_types::resolved_entity_types;
+pub use targets::find_target;

@@ -93,7 +93,7 @@ fn is_declared(all_defs: &AllDefs, kind: ReferenceType, name: &InternalName) -> 
 }
 
 /// The full name that a reference means, if it means one. It takes no memory.
-fn find_target<'a>(all_defs: &AllDefs, name: &'a ConditionalName) -> Option<&'a InternalName>
+pub fn find_target<'a>(all_defs: &AllDefs, name: &'a ConditionalName) -> Option<&'a InternalName>
     ensures { option_copied result ≡ found (names_of all_defs.now) name.now }
 {
     let kind = name.reference_type();

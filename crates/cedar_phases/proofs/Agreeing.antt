@@ -1,21 +1,19 @@
 -- SPDX-License-Identifier: Apache-2.0
 -- What holds of declared names holds of names that agree with them.
-use Rattle.std.proofs.Common.{◌≡◌, ◌&&◌, ◌||◌, ℕ, Bool, not, IsTrue, List, ◌∷◌, [], ◌++◌, Option, inl, inr, map, refl, sym, ap, ◌∙◌, subst}
+use Rattle.std.proofs.Common.{◌≡◌, ◌&&◌, ◌||◌, ℕ, Bool, not, IsTrue, List, ◌∷◌, [], ◌++◌, inl, inr, map, sym, subst}
 use Rattle.std.specs.List.{filter, find}
 use Rattle.std.specs.declared.cmp.Ordering.{Ordering}
-use Rattle.std.specs.declared.cmp.Ordering.TheVariants.{Less}
-use Rattle.cedar_data.specs.Firsts.{AllPass, FirstRefused, IsLeast}
+use Rattle.cedar_data.specs.Firsts.{AllPass, FirstRefused}
 use Rattle.cedar_data.specs.Maps.{map_of}
-use Rattle.cedar_declared.specs.Names.{Names, action_target, is_action, is_common, is_declared, is_entity, target}
+use Rattle.cedar_declared.specs.Names.{Names, action_target, is_action, is_declared, is_entity, target}
 use Rattle.cedar_names.specs.Order.{words_cmp}
 use Rattle.cedar_qualified.specs.Agreeing.{AgreeingNames}
 use Rattle.cedar_schema_error.specs.FullNames.{FullName, Uid, uid_cmp}
-use Rattle.cedar_schema_error.specs.NameReferences.{ActionReference, NameReference}
 use Rattle.cedar_schema_error.specs.Refusals.{Refusal}
 use Rattle.cedar_shadowing.specs.Shadowing.{ActionShadows, IsLeastPair, NoPair, ShadowPasses, ShadowPhase, ShadowRefuses, ShadowsAction, ShadowsType, TypeShadows, shadow_phases}
 use Rattle.cedar_text.specs.Words.{primitive_words}
-use Rattle.cedar_world.specs.Definitions.{Namespace, of_common_types}
-use Rattle.cedar_world.specs.Worlds.{alias, aliases_among, builtin_namespaces, builtins, is_free}
+use Rattle.cedar_world.specs.Definitions.{of_common_types}
+use Rattle.cedar_world.specs.Worlds.{alias, builtin_namespaces, builtins, is_free}
 use Rattle.cedar_written.specs.declared.reference_type.ReferenceType.{ReferenceType}
 use Rattle.cedar_written.specs.declared.reference_type.ReferenceType.TheVariants.{Common, Entity, CommonOrEntity}
 

@@ -1,14 +1,12 @@
 -- SPDX-License-Identifier: Apache-2.0
 -- Chains, sets and lists of pairs, seen through what their members are.
-use Rattle.std.proofs.Common.{◌≡◌, ◌↔◌, Bool, cond, true, false, List, [], ◌∷◌, Option, Some, None, map, refl, sym, ap, ◌∙◌, subst}
-use Rattle.std.specs.BTreeMap.{is_at}
+use Rattle.std.proofs.Common.{◌≡◌, Bool, cond, true, false, List, [], ◌∷◌, Option, Some, None, map, refl}
 use Rattle.std.specs.List.{AllZip}
 use Rattle.std.specs.Map.{lookup}
 use Rattle.std.specs.Option.{option_map}
 use Rattle.std.specs.declared.cmp.Ordering.{Ordering}
 use Rattle.cedar_closure.specs.Chains.{Reaches, one, more}
 use Rattle.cedar_data.specs.Firsts.{AllPass}
-use Rattle.cedar_data.specs.Maps.{get}
 use Rattle.cedar_data.specs.Sets.{IsSetOf}
 
 -- a chain of steps is one of others, where each step is

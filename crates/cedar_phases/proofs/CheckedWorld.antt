@@ -1,7 +1,6 @@
 -- SPDX-License-Identifier: Apache-2.0
 -- From what checks of definitions answer to what is said of the world.
-use Rattle.std.proofs.Common.{◌≡◌, ◌++◌, List, [], ◌∷◌, map, Option, Some, None, inl, inr, refl, sym, ap, ◌∙◌, subst}
-use Rattle.std.specs.List.{flat_map}
+use Rattle.std.proofs.Common.{◌≡◌, ◌++◌, List, [], ◌∷◌, map, Some, None, inl, inr, refl, sym, ap, ◌∙◌, subst}
 use Rattle.std.specs.Map.{keys_of}
 use Rattle.std.proofs.lemmas.Option.{none-some}
 use Rattle.cedar_data.specs.Firsts.{AllPass, FirstAgain, FirstRefused, NoneAgain}
@@ -10,20 +9,21 @@ use Rattle.cedar_declared.specs.Names.{Names}
 use Rattle.cedar_declared.specs.declared.all_defs.AllDefs.{AllDefs}
 use Rattle.cedar_duplicates.specs.Duplicates.{Action, AreOnce, CommonType, Declared, EntityType, IsTwice, duplicate, same_declared}
 use Rattle.cedar_duplicates.specs.Duplicates as code
-use Rattle.cedar_missing.specs.Undeclared.{Parent, missing_in_definition, missing_in_each, refusal_by, refusal_of, reserved_refusal}
+use Rattle.cedar_missing.specs.Undeclared.{Parent, missing_in_definition, missing_in_each, refusal_by, refusal_of}
 use Rattle.cedar_names.specs.Components.{components}
+use Rattle.cedar_names.specs.Names.{entity_words}
 use Rattle.cedar_names.specs.declared.extensions.Extensions.{Extensions}
 use Rattle.cedar_names.specs.declared.internal_name.InternalName.{InternalName}
 use Rattle.cedar_phases.specs.Holding.{Definition, Holds}
 use Rattle.cedar_qualified.proofs.MissedDefinitions.{actions_missed, reserved_meant, types_missed}
-use Rattle.cedar_schema_error.specs.FullNames.{FullName}
-use Rattle.cedar_schema_error.specs.NameReferences.{ActionReference, NameReference, action_reference_of, reference_of}
+use Rattle.cedar_schema_error.specs.FullNames.{uid_in}
+use Rattle.cedar_schema_error.specs.NameReferences.{action_reference_of, reference_of}
 use Rattle.cedar_schema_error.specs.Refusals.{Refusal}
 use Rattle.cedar_schema_error.specs.Told.{told}
 use Rattle.cedar_schema_error.specs.declared.schema_error.SchemaError.{SchemaError}
 use Rattle.cedar_sound.specs.References.{ReferencesPass, ReferencesRefuse, reference_phases}
 use Rattle.cedar_sound.specs.Sound.{Duplicates, Passes, References, RefusesAt, all_declared, declared_in}
-use Rattle.cedar_world.specs.DefinitionViews.{namespace_in}
+use Rattle.cedar_world.specs.DefinitionViews.{action_of, kind_in, namespace_in, type_in}
 use Rattle.cedar_world.specs.Definitions.{Namespace}
 use Rattle.cedar_world.specs.Missing.{missing_actions, missing_types, reserved_targets}
 use Rattle.cedar_world.specs.Worlds.{World, all_namespaces, names}
@@ -55,16 +55,12 @@ module _ (names : Names) (all : List Namespace) where
 
 -- ---- duplicates
 
-common_types_told : {V W : Type 0} (f : V → W) (es : List (InternalName × V)) → map CommonType (keys_of (map (λ e. (components e.0, f e.1)) es)) ≡ map (λ e. CommonType (components e.0)) es
-common_types_told f [] = refl
-common_types_told f (e ∷ es) = ap (λ l. CommonType (components e.0) ∷ l) (common_types_told f es)
-
 names_told : {K J V W : Type 0} (kind : J → Declared) (name : K → J) (f : V → W) (es : List (K × V)) → map kind (keys_of (map (λ e. (name e.0, f e.1)) es)) ≡ map (λ e. kind (name e.0)) es
 names_told kind name f [] = refl
 names_told kind name f (e ∷ es) = ap (λ l. kind (name e.0) ∷ l) (names_told kind name f es)
 
 declared_told : (d : Definition) → declared_in (namespace_in d) ≡ code.declared_in d
-declared_told d = λ i. names_told CommonType _ _ d.common_types.defs i ++ (names_told EntityType _ _ d.entity_types.defs i ++ names_told Action _ _ d.actions.actions i)
+declared_told d = λ i. names_told CommonType components type_in d.common_types.defs i ++ (names_told EntityType entity_words kind_in d.entity_types.defs i ++ names_told Action uid_in action_of d.actions.actions i)
 
 all_told : (ds : List Definition) → all_declared (map namespace_in ds) ≡ code.all_declared ds
 all_told [] = refl

@@ -1,11 +1,11 @@
 -- SPDX-License-Identifier: Apache-2.0
 -- How what phases say is put together.
-use Rattle.std.proofs.Common.{◌≡◌, ◌++◌, List, [], ◌∷◌, inl, inr, refl, subst}
+use Rattle.std.proofs.Common.{◌++◌, List, [], ◌∷◌, inl, inr}
 use Rattle.cedar_data.specs.Firsts.{AllPass, FirstRefused, IsLeast}
-use Rattle.cedar_phases.specs.Holding.{AllPassed, OneRefuses, early_phases, last_phases, later_phases}
+use Rattle.cedar_phases.specs.Holding.{AllPassed, OneRefuses, early_phases, later_phases}
 use Rattle.cedar_schema_error.specs.FullNames.{Uid, uid_cmp}
 use Rattle.cedar_schema_error.specs.Refusals.{Refusal}
-use Rattle.cedar_sound.specs.Sound.{ActionCycles, Cause, Passes, Phase, References, RefusesAt, Shadowing, Sound, UndeclaredTypes, Unfolding}
+use Rattle.cedar_sound.specs.Sound.{Cause, Passes, RefusesAt, Shadowing, Sound}
 use Rattle.cedar_world.specs.Worlds.{World}
 
 module _ {A E : Type 0} (P : A → Type 0) (F : A → E → Type 0) where

@@ -1,6 +1,6 @@
 -- SPDX-License-Identifier: Apache-2.0
 -- From gathered definitions to what is held of a world.
-use Rattle.std.proofs.Common.{◌≡◌, ◌++◌, List, map, refl, sym, ap, ◌∙◌, subst}
+use Rattle.std.proofs.Common.{◌≡◌, ◌++◌, List, map, refl, ap, ◌∙◌, subst}
 use Rattle.std.specs.List.{flat_map}
 use Rattle.cedar_data.specs.Firsts.{AllPass, FirstRefused}
 use Rattle.cedar_declared.specs.Gathering.{declared_names}
@@ -14,14 +14,13 @@ use Rattle.cedar_phases.specs.Holding.{Fragment, Holds, world_of}
 use Rattle.cedar_phases.proofs.Agreeing.{same_builtins, shadows_pass, shadows_refuse}
 use Rattle.cedar_qualified.specs.Agreeing.{AgreeingNames}
 use Rattle.cedar_qualified.proofs.AgreedNames.{names_agree}
-use Rattle.cedar_schema_error.specs.Refusals.{Refusal}
 use Rattle.cedar_schema_error.specs.Told.{told}
 use Rattle.cedar_schema_error.specs.declared.schema_error.SchemaError.{SchemaError}
 use Rattle.cedar_shadowing.specs.Shadowing.{ShadowPasses, ShadowRefuses, shadow_phases}
 use Rattle.cedar_sound.specs.Sound.{Passes, RefusesAt, Shadowing}
 use Rattle.cedar_text.proofs.Members.{map-append}
 use Rattle.cedar_world.specs.DefinitionViews.{namespace_in}
-use Rattle.cedar_world.specs.Worlds.{World, all_namespaces, builtin_namespaces, names, names_in, own}
+use Rattle.cedar_world.specs.Worlds.{World, all_namespaces, builtin_namespaces, names_in, own}
 
 module _ (fragments : List Fragment) (extensions : Extensions) (own_defs : AllDefs) (gathered : SameNames (names_of own_defs) (declared_names (flat_map definitions_of fragments))) where
   abbrev W : World

@@ -1,6 +1,6 @@
 -- SPDX-License-Identifier: Apache-2.0
 -- Memberships and descents among outlines are those of the world.
-use Rattle.std.proofs.Common.{◌≡◌, List, Option, Some, map, refl, sym, ap, ◌∙◌, subst}
+use Rattle.std.proofs.Common.{◌≡◌, List, Option, Some, map, sym, ap, ◌∙◌, subst}
 use Rattle.std.specs.BTreeMap.{is_at}
 use Rattle.std.specs.Option.{option_map}
 use Rattle.cedar_data.specs.Firsts.{SomePasses}

@@ -2,11 +2,10 @@
 -- The targets of references that must mean entity types: they are the names in types over full names, and where types have no fault, none has `__cedar`.
 use Rattle.std.proofs.Common.{◌≡◌, ◌++◌, ℕ, Bool, true, false, List, [], ◌∷◌, Option, Some, None, refl, sym, ap, ◌∙◌, subst}
 use Rattle.std.proofs.lemmas.List.Elements.{filter_map-append}
-use Rattle.std.specs.List.{AllZip, cons_option, filter_map, flat_map}
+use Rattle.std.specs.List.{AllZip, cons_option, filter_map}
 use Rattle.cedar_data.specs.Firsts.{AllPass}
 use Rattle.cedar_names.specs.Components.{has_cedar}
 use Rattle.cedar_schema_error.specs.FullNames.{FullName}
-use Rattle.cedar_schema_error.specs.Refusals.{Refusal}
 use Rattle.cedar_sound.proofs.NothingMissed.{pass_append}
 use Rattle.cedar_unfold.specs.Faults.{attribute_faults_by, entity_fault, faults_by, of_target, open_fault, reserved_fault}
 use Rattle.cedar_unfold.specs.Written.{Written, WrittenAttributes, Boolean, Long, String, Extension, Set, Record, Entity, EntityOrCommon, CommonTypeRef, no_attributes, attribute}

@@ -1,9 +1,12 @@
 -- SPDX-License-Identifier: Apache-2.0
 pub mod Agreeing
+pub mod Assembled
+pub mod Carried
 pub mod Chained
 pub mod CheckedWorld
 pub mod Composing
 pub mod Contained
+pub mod DeclaredTables
 pub mod DeclaredWorld
 pub mod Descending
 pub mod EntityReferences

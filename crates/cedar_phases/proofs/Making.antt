@@ -1,7 +1,7 @@
 -- SPDX-License-Identifier: Apache-2.0
 -- From the entity types and actions that are made to those that the world denotes.
-use Rattle.std.proofs.Common.{◌≡◌, ◌&&◌, ℕ, Bool, true, false, not, IsTrue, List, [], ◌∷◌, map, Option, Some, None, refl, sym, ap, ◌∙◌, subst}
-use Rattle.std.specs.List.{AllZip, filter_map}
+use Rattle.std.proofs.Common.{◌≡◌, ◌&&◌, ℕ, false, not, IsTrue, List, [], ◌∷◌, map, Option, Some, None, refl, sym, ap, ◌∙◌, subst}
+use Rattle.std.specs.List.{AllZip, filter_map, flat_map}
 use Rattle.std.specs.Option.{option_map}
 use Rattle.cedar_data.specs.Firsts.{AllPass}
 use Rattle.cedar_data.specs.Maps.{IsSortedMap, get}
@@ -11,19 +11,17 @@ use Rattle.cedar_declared.specs.Names.{Names, action_target, target, targets}
 use Rattle.cedar_declared.specs.declared.all_defs.AllDefs.{AllDefs}
 use Rattle.cedar_hierarchy.specs.Made.{MakesAction, MakesEntity, context_at_use, entity_attributes, entity_kind}
 use Rattle.cedar_hierarchy.specs.Outlined.{ActionOutlineDescends, OutlineDescends}
-use Rattle.cedar_hierarchy.specs.Targets.{AreMeant}
 use Rattle.cedar_hierarchy.specs.Uses.{Uses, record_at_use, type_at_use}
 use Rattle.cedar_names.specs.Components.{has_cedar}
 use Rattle.cedar_names.specs.Names.{entity_words}
 use Rattle.cedar_names.specs.Order.{words_cmp}
-use Rattle.cedar_names.specs.OrderLaws.{words-total}
 use Rattle.cedar_names.specs.declared.entity_uid.EntityUID.{EntityUID}
 use Rattle.cedar_names.specs.declared.extensions.Extensions.{Extensions}
 use Rattle.cedar_names.specs.declared.name.EntityType.{EntityType}
 use Rattle.cedar_phases.specs.Holding.{Definition, Holds}
 use Rattle.cedar_phases.specs.SchemaViews.{action_in, entity_in, kind_of}
 use Rattle.cedar_phases.proofs.Agreeing.{same_action_target, same_target}
-use Rattle.cedar_phases.proofs.Chained.{set_there, unchanged, zip_through}
+use Rattle.cedar_phases.proofs.Chained.{set_there, zip_through}
 use Rattle.cedar_phases.proofs.Contained.{and_both, and_left, of_contained}
 use Rattle.cedar_phases.proofs.Descending.{action_descends_back, action_descends_there, descends_back, descends_there}
 use Rattle.cedar_phases.proofs.Records.{record_view}
@@ -33,13 +31,13 @@ use Rattle.cedar_resolved.specs.declared.action.ValidatorActionId.{ValidatorActi
 use Rattle.cedar_resolved.specs.declared.entity_type.ValidatorEntityType.{ValidatorEntityType}
 use Rattle.cedar_resolved.specs.declared.kind.ValidatorEntityTypeKind.{ValidatorEntityTypeKind}
 use Rattle.cedar_schema_error.specs.FullNames.{FullName, Uid, uid_cmp, uid_in}
-use Rattle.cedar_schema_error.specs.NameReferences.{ActionReference, NameReference, reference_of}
+use Rattle.cedar_schema_error.specs.NameReferences.{ActionReference, NameReference}
 use Rattle.cedar_schema_error.specs.declared.use_place.UsePlace.TheVariants as place
 use Rattle.cedar_sound.proofs.NameOrders.{names_exact, uids_exact}
 use Rattle.cedar_sound.proofs.NothingMissed.{AreFree}
 use Rattle.cedar_sound.proofs.SortedMaps.{found-each, sorted-map_of}
 use Rattle.cedar_sound.proofs.UsesFound.{context_found, no_tags_found, shape_found, tags_found}
-use Rattle.cedar_tables.specs.Outlines.{action_outline, action_outline_in, choices_of, entity_outline, entity_outline_in}
+use Rattle.cedar_tables.specs.Outlines.{ActionParts, EntityParts, action_outline, action_outline_in, choices_of, entity_outline, entity_outline_in}
 use Rattle.cedar_tables.specs.declared.outlines.ActionOutline.{ActionOutline}
 use Rattle.cedar_tables.specs.declared.outlines.EntityOutline.{EntityOutline}
 use Rattle.cedar_text.specs.Lists.{elements}
@@ -56,7 +54,7 @@ use Rattle.cedar_unfold.specs.Written.{Written}
 use Rattle.cedar_world.specs.Definitions.{ActionDefinition, EntityDefinition, Enumerated, Standard}
 use Rattle.cedar_world.specs.Denotes.{AreTargets, DenotesAction, DenotesEntity, DenotesKind, DenotesTags}
 use Rattle.cedar_world.specs.Descents.{ActionDescendsFrom, DescendsFrom}
-use Rattle.cedar_world.specs.Worlds.{World, actions, entity_types, job, meanings, names, uses}
+use Rattle.cedar_world.specs.Worlds.{World, actions, all_namespaces, entity_types, job, meanings, names, uses}
 
 same_inside : {A : Type 0} (x y : A) → Some x ≡ Some y → x ≡ y
 same_inside x y e = cc
@@ -70,10 +68,10 @@ no_none x e = absurd (cc)
 module _ (W : World) (all_defs : AllDefs) (ds : List Definition) (X : Extensions) (h : Holds W all_defs ds X)
     (used : Uses) (unfolded : AllZip (UnfoldsAt (job W)) (uses W) (by_place resolved used)) (passes : AllPass (UsePasses (meanings W)) (uses W)) where
   types_sorted : IsSortedMap words_cmp (entity_types W)
-  types_sorted = sorted-map_of names_exact.total _
+  types_sorted = sorted-map_of names_exact.total (flat_map (λ ns. ns.entity_types) (all_namespaces W))
 
   actions_sorted : IsSortedMap uid_cmp (actions W)
-  actions_sorted = sorted-map_of uids_exact.total _
+  actions_sorted = sorted-map_of uids_exact.total (flat_map (λ ns. ns.actions) (all_namespaces W))
 
   -- ---- entity types
 
@@ -104,9 +102,10 @@ module _ (W : World) (all_defs : AllDefs) (ds : List Definition) (X : Extensions
         subst (λ k. DenotesKind W (Enumerated ids) (kind_of attributes k)) (sym ks) (same_inside (elements given) ids e)
     kind_by (Standard parents shape tags) (Some given) attributes kind e got as' ks = absurd (no_some (elements given) e)
     kind_by (Standard parents shape tags) None attributes kind e got as' ks =
-        subst (λ k. DenotesKind W (Standard parents shape tags) (kind_of attributes k)) (sym ks)
-        (subst (λ (as' : Attributes). Unfolds (meanings W) shape (Record (resolved_map (entries as')) (is_open (record_at_use (type_at_use used (place.Shape name))).1))) (sym as') (shape_by parents shape tags got),
-          tags_by parents shape tags got)
+        subst (λ k. DenotesKind W (Standard parents shape tags) (kind_of attributes k)) (sym ks) (
+          subst (λ (as' : Attributes). Unfolds (meanings W) shape (Record (resolved_map (entries as')) (is_open (record_at_use (type_at_use used (place.Shape name))).1))) (sym as') (shape_by parents shape tags got),
+          tags_by parents shape tags got,
+        )
 
   module _ (types : List (EntityType × EntityOutline)) (types_are : map entity_outline_in types ≡ map entity_outline (entity_types W)) where
     entity_denoted : (o : EntityType × EntityOutline) (d : FullName × EntityDefinition NameReference) (m : EntityType × ValidatorEntityType) → entity_outline_in o ≡ entity_outline d
@@ -118,8 +117,8 @@ module _ (W : World) (all_defs : AllDefs) (ds : List Definition) (X : Extensions
           named = ap entity_words made.described.key ∙ named;
           descendants = subst (λ n. IsSetOf words_cmp (DescendsFrom W n) (map entity_words m.1.descendants)) named
               (set_there words_cmp (OutlineDescends (names_of all_defs) (map entity_outline_in types) (entity_words o.0)) (DescendsFrom W (entity_words o.0))
-                (descends_there W (names_of all_defs) same (map entity_outline_in types) types_are (entity_words o.0))
-                (descends_back W (names_of all_defs) same (map entity_outline_in types) types_are (entity_words o.0)) (map entity_words m.1.descendants) made.descendants);
+              (descends_there W (names_of all_defs) same (map entity_outline_in types) types_are (entity_words o.0))
+              (descends_back W (names_of all_defs) same (map entity_outline_in types) types_are (entity_words o.0)) (map entity_words m.1.descendants) made.descendants);
           kind = kind_by o.0 d.1 o.1.choices (type_attributes m.1) m.1.kind (ap (λ x. x.1.choices) e) (ap (get words_cmp (entity_types W)) named ∙ got) made.described.attributes made.described.kind;
         }
 
@@ -141,10 +140,10 @@ module _ (W : World) (all_defs : AllDefs) (ds : List Definition) (X : Extensions
       (subst (λ (t : NameReference → Option FullName). IsSetOf words_cmp (λ n. IsTrue (contains words_cmp (filter_map t refs) n && not (has_cedar n))) ns) same set)
 
   module _ (acts : List (EntityUID × ActionOutline)) (acts_are : map action_outline_in acts ≡ map action_outline (actions W)) where
-    Free : Uid × ActionDefinition NameReference ActionReference → Type 0
+    abbrev pub Free : Uid × ActionDefinition NameReference ActionReference → Type 0
     Free d = AreFree (names W) (targets (names W) d.1.principals) × AreFree (names W) (targets (names W) d.1.resources)
 
-    Known : Uid × ActionDefinition NameReference ActionReference → Type 0
+    abbrev pub Known : Uid × ActionDefinition NameReference ActionReference → Type 0
     Known d = (get uid_cmp (actions W) d.0 ≡ Some d.1) × Free d
 
     context_by : (u : EntityUID) (context : ResolvedType) (d : ActionDefinition NameReference ActionReference) → get uid_cmp (actions W) (uid_in u) ≡ Some d
@@ -169,8 +168,8 @@ module _ (W : World) (all_defs : AllDefs) (ds : List Definition) (X : Extensions
           attributes = made.described.attributes ∙ ap (λ x. x.1.attributes) e;
           descendants = subst (λ u. IsSetOf uid_cmp (ActionDescendsFrom W u) (action_in m).1.descendants) named
               (set_there uid_cmp (ActionOutlineDescends (names_of all_defs) (map action_outline_in acts) (uid_in o.0)) (ActionDescendsFrom W (uid_in o.0))
-                (action_descends_there W (names_of all_defs) same (map action_outline_in acts) acts_are (uid_in o.0))
-                (action_descends_back W (names_of all_defs) same (map action_outline_in acts) acts_are (uid_in o.0)) (action_in m).1.descendants made.descendants);
+              (action_descends_there W (names_of all_defs) same (map action_outline_in acts) acts_are (uid_in o.0))
+              (action_descends_back W (names_of all_defs) same (map action_outline_in acts) acts_are (uid_in o.0)) (action_in m).1.descendants made.descendants);
         }
 
     both_pass : {A : Type 0} (P Q : A → Type 0) (xs : List A) → AllPass P xs → AllPass Q xs → AllPass (λ x. P x × Q x) xs
@@ -183,14 +182,14 @@ module _ (W : World) (all_defs : AllDefs) (ds : List Definition) (X : Extensions
         action_denoted acts (actions W) made acts_are (both_pass (λ d. get uid_cmp (actions W) d.0 ≡ Some d.1) Free (actions W) (found-each uids_exact.total (actions W) actions_sorted) free) zip
 
 -- each stands under its name
-pub types_named : {names : Names} {os : _} {used : Uses} (types : List (EntityType × EntityOutline)) (made : List (EntityType × ValidatorEntityType)) → AllZip (MakesEntity names os used) types made → AllPass (λ e. type_name e.1 ≡ e.0) made
-types_named [] [] z = tt
-types_named [] (m ∷ made) z = absurd z
-types_named (t ∷ types) [] z = absurd z
-types_named (t ∷ types) (m ∷ made) z = (z.0.described.named ∙ sym z.0.described.key, types_named types made z.1)
+pub types_named : (declared : Names) (os : List (FullName × EntityParts)) (used : Uses) (types : List (EntityType × EntityOutline)) (made : List (EntityType × ValidatorEntityType)) → AllZip (MakesEntity declared os used) types made → AllPass (λ e. type_name e.1 ≡ e.0) made
+types_named declared os used [] [] z = tt
+types_named declared os used [] (m ∷ made) z = absurd z
+types_named declared os used (t ∷ types) [] z = absurd z
+types_named declared os used (t ∷ types) (m ∷ made) z = (z.0.described.named ∙ sym z.0.described.key, types_named declared os used types made z.1)
 
-pub actions_named : {names : Names} {os : _} {used : Uses} (acts : List (EntityUID × ActionOutline)) (made : List (EntityUID × ValidatorActionId)) → AllZip (MakesAction names os used) acts made → AllPass (λ a. action_name a.1 ≡ a.0) made
-actions_named [] [] z = tt
-actions_named [] (m ∷ made) z = absurd z
-actions_named (a ∷ acts) [] z = absurd z
-actions_named (a ∷ acts) (m ∷ made) z = (z.0.described.named ∙ sym z.0.described.key, actions_named acts made z.1)
+pub actions_named : (declared : Names) (os : List (Uid × ActionParts)) (used : Uses) (acts : List (EntityUID × ActionOutline)) (made : List (EntityUID × ValidatorActionId)) → AllZip (MakesAction declared os used) acts made → AllPass (λ a. action_name a.1 ≡ a.0) made
+actions_named declared os used [] [] z = tt
+actions_named declared os used [] (m ∷ made) z = absurd z
+actions_named declared os used (a ∷ acts) [] z = absurd z
+actions_named declared os used (a ∷ acts) (m ∷ made) z = (z.0.described.named ∙ sym z.0.described.key, actions_named declared os used acts made z.1)

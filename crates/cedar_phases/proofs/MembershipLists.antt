@@ -27,25 +27,6 @@ module _ (names : Names) (n : ConditionalName) where
   pub pushed_none : (old new : List InternalName) → None ≡ found names n → new ≡ old → map components new ≡ map components old ++ targets names (reference_of n ∷ [])
   pushed_none old new is same = ap (map components) same ∙ sym (append-nil (map components old)) ∙ ap (λ l. map components old ++ l) (sym (meant None is))
 
--- a loop over `whole` that has `left` before it has put what f gives of those before behind `base`
-pub record Appends {A B : Type 0} (f : A → List B) (base : List B) (whole left : List A) (all : List B) : Type 0 where
-  pub is : all ++ flat_map f left ≡ base ++ flat_map f whole
-
-module _ {A B : Type 0} where
-  -- before the first
-  pub Appends-start : (f : A → List B) (base : List B) (whole left : List A) (all : List B) → left ≡ whole → all ≡ base → Appends f base whole left all
-  Appends-start f base whole left all same none = record { is = λ i. none i ++ flat_map f (same i) }
-
-  -- one more
-  pub Appends-next : (f : A → List B) (base : List B) (whole left rest : List A) (all more : List B) (next : A) → Appends f base whole left all → left ≡ next ∷ rest → more ≡ all ++ f next → Appends f base whole rest more
-  Appends-next f base whole left rest all more next sofar first put = record {
-    is = ap (λ l. l ++ flat_map f rest) put ∙ append_assoc all (f next) (flat_map f rest) ∙ sym (ap (λ l. all ++ flat_map f l) first) ∙ sofar.is;
-  }
-
-  -- after the last
-  pub Appends-end : (f : A → List B) (base : List B) (whole left : List A) (all : List B) → Appends f base whole left all → left ≡ [] → all ≡ base ++ flat_map f whole
-  Appends-end f base whole left all sofar none = sym (append-nil all) ∙ sym (ap (λ l. all ++ flat_map f l) none) ∙ sofar.is
-
 -- the targets of what g gives of each are those of all
 pub targets_flat : {A : Type 0} (names : Names) (g : A → List NameReference) (xs : List A) → flat_map (λ x. targets names (g x)) xs ≡ targets names (flat_map g xs)
 targets_flat names g [] = refl

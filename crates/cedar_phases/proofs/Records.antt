@@ -1,12 +1,12 @@
 -- SPDX-License-Identifier: Apache-2.0
 -- A resolved type that is a record has the attributes of its outermost layer.
-use Rattle.std.proofs.Common.{◌≡◌, Bool, true, false, IsTrue, refl, sym, ap, ◌∙◌}
-use Rattle.cedar_hierarchy.specs.Uses.{no_record, record_of}
+use Rattle.std.proofs.Common.{◌≡◌, Bool, false, IsTrue, refl, ap, ◌∙◌}
+use Rattle.cedar_hierarchy.specs.Uses.{record_of}
 use Rattle.cedar_types.proofs.Folds.{fold_attributes-entries, fold_type-layer}
 use Rattle.cedar_types.specs.Types.{Layer, entries, layer}
 use Rattle.cedar_types.specs.declared.ty.ResolvedType.{ResolvedType}
 use Rattle.cedar_types.specs.declared.ty.TypeNode.TheOpen as layers
-use Rattle.cedar_unfold.specs.Resolved.{Resolved, Boolean, Long, String, Extension, Set, Record, Entity, is_record}
+use Rattle.cedar_unfold.specs.Resolved.{Resolved, Record, is_record}
 use Rattle.cedar_unfold.specs.ResolvedViews.{is_open, layer_view, resolved, resolved_attributes, resolved_map}
 
 abbrev marked : Resolved → Bool → Bool × Resolved

@@ -1,12 +1,12 @@
 -- SPDX-License-Identifier: Apache-2.0
 -- From the names that code finds undeclared to those of the world.
-use Rattle.std.proofs.Common.{◌≡◌, ◌++◌, ◌&&◌, ◌||◌, Bool, true, false, cond, not, IsTrue, List, [], ◌∷◌, map, Option, Some, None, refl, sym, ap, ◌∙◌, subst}
+use Rattle.std.proofs.Common.{◌≡◌, ◌++◌, ◌&&◌, true, false, cond, not, IsTrue, List, [], ◌∷◌, map, Option, Some, None, refl, sym, ap, ◌∙◌, subst}
 use Rattle.std.proofs.lemmas.List.Elements.{filter_map-append}
-use Rattle.std.specs.List.{AllZip, filter, filter_map, flat_map, list_any}
+use Rattle.std.specs.List.{filter, filter_map, flat_map}
 use Rattle.cedar_data.specs.Firsts.{AllPass}
 use Rattle.cedar_data.specs.Sets.{IsSetOf, contains}
 use Rattle.cedar_declared.specs.Held.{names_of}
-use Rattle.cedar_declared.specs.Names.{Names, is_entity, target, targets}
+use Rattle.cedar_declared.specs.Names.{is_entity, target, targets}
 use Rattle.cedar_declared.specs.declared.all_defs.AllDefs.{AllDefs}
 use Rattle.cedar_names.specs.Components.{components, has_cedar}
 use Rattle.cedar_names.specs.Order.{words_cmp}
@@ -77,14 +77,14 @@ module _ (W : World) (all_defs : AllDefs) (ds : List Definition) (X : Extensions
   given_same : names_of_entities full full_uses others ≡ targets (names W) (references_to_entities W)
   given_same =
       let commons : all_entity_references (full_types full) ≡ targets (names W) (all_entity_references (common_types W)) =
-          same_names components (written_type components) full ∙ sym (names_in_all (target (names W)) (common_types W) (by_name (written_type components) full) q.commons_are) in
+      same_names components (written_type components) full ∙ sym (names_in_all (target (names W)) (common_types W) (by_name (written_type components) full) q.commons_are) in
       let used : all_entity_references (full_types full_uses) ≡ targets (names W) (all_entity_references (uses W)) =
-          same_names told_use (written_type components) full_uses ∙ sym (names_in_all (target (names W)) (uses W) (by_place (written_type components) full_uses) q.uses_are) in
+      same_names told_use (written_type components) full_uses ∙ sym (names_in_all (target (names W)) (uses W) (by_place (written_type components) full_uses) q.uses_are) in
       let rest : map components others ≡ targets (names W) (entity_parents (entity_types W) ++ applications (actions W)) =
-          members_are
-          ∙ (λ i. targets (names_of all_defs) (parents_same i) ++ targets (names_of all_defs) (applications_same i))
-          ∙ sym (filter_map-append (target (names_of all_defs)) (entity_parents (entity_types W)) (applications (actions W)))
-          ∙ ap (λ (t : NameReference → Option FullName). filter_map t (entity_parents (entity_types W) ++ applications (actions W))) same in
+      members_are
+      ∙ (λ i. targets (names_of all_defs) (parents_same i) ++ targets (names_of all_defs) (applications_same i))
+      ∙ sym (filter_map-append (target (names_of all_defs)) (entity_parents (entity_types W)) (applications (actions W)))
+      ∙ ap (λ (t : NameReference → Option FullName). filter_map t (entity_parents (entity_types W) ++ applications (actions W))) same in
       (λ i. commons i ++ (used i ++ rest i))
       ∙ ap (λ l. targets (names W) (all_entity_references (common_types W)) ++ l) (sym (filter_map-append (target (names W)) (all_entity_references (uses W)) (entity_parents (entity_types W) ++ applications (actions W))))
       ∙ sym (filter_map-append (target (names W)) (all_entity_references (common_types W)) (all_entity_references (uses W) ++ (entity_parents (entity_types W) ++ applications (actions W))))
@@ -115,17 +115,17 @@ module _ (W : World) (all_defs : AllDefs) (ds : List Definition) (X : Extensions
       applications_unreserved : AllPass (λ n. has_cedar n ≡ false) (targets (names W) (applications (actions W)))
       applications_unreserved = subst (AllPass (λ n. has_cedar n ≡ false)) (targets_flat (names W) (λ (a : Uid × ActionDefinition NameReference ActionReference). a.1.principals ++ a.1.resources) (actions W))
           (pass_flat (λ n. has_cedar n ≡ false) (λ a. targets (names W) (a.1.principals ++ a.1.resources)) (actions W)
-            (pass_weaker (λ a. AllPass (λ n. has_cedar n ≡ false) (targets (names W) a.1.principals) × AllPass (λ n. has_cedar n ≡ false) (targets (names W) a.1.resources))
-              (λ a. AllPass (λ n. has_cedar n ≡ false) (targets (names W) (a.1.principals ++ a.1.resources))) (λ a f. free_list a.1.principals a.1.resources f.0 f.1) (actions W)
-              (applications_free (names W) (all_namespaces W) references.1.1.0)))
+          (pass_weaker (λ a. AllPass (λ n. has_cedar n ≡ false) (targets (names W) a.1.principals) × AllPass (λ n. has_cedar n ≡ false) (targets (names W) a.1.resources))
+          (λ a. AllPass (λ n. has_cedar n ≡ false) (targets (names W) (a.1.principals ++ a.1.resources))) (λ a f. free_list a.1.principals a.1.resources f.0 f.1) (actions W)
+          (applications_free (names W) (all_namespaces W) references.1.1.0)))
 
       all_unreserved : AllPass (λ n. has_cedar n ≡ false) (targets (names W) (references_to_entities W))
       all_unreserved =
           free_list (all_entity_references (common_types W)) (all_entity_references (uses W) ++ (entity_parents (entity_types W) ++ applications (actions W)))
           (all_free (target (names W)) (is_common (meanings W)) (meanings W).is_extension (common_types W) commons_faultless)
           (free_list (all_entity_references (uses W)) (entity_parents (entity_types W) ++ applications (actions W))
-            (all_free (target (names W)) (is_common (meanings W)) (meanings W).is_extension (uses W) uses_faultless)
-            (free_list (entity_parents (entity_types W)) (applications (actions W)) parents_unreserved applications_unreserved))
+          (all_free (target (names W)) (is_common (meanings W)) (meanings W).is_extension (uses W) uses_faultless)
+          (free_list (entity_parents (entity_types W)) (applications (actions W)) parents_unreserved applications_unreserved))
 
       member_free : (n : FullName) → IsTrue (contains words_cmp ns n) → has_cedar n ≡ false
       member_free n here = of_contained (λ n. has_cedar n ≡ false) (targets (names W) (references_to_entities W)) n all_unreserved

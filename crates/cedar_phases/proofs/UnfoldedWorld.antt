@@ -1,13 +1,13 @@
 -- SPDX-License-Identifier: Apache-2.0
 -- From types over full names to the job of the world.
-use Rattle.std.proofs.Common.{◌≡◌, ◌⊎◌, ◌++◌, ℕ, Bool, List, [], ◌∷◌, map, inl, inr, refl, sym, ap, ◌∙◌, subst}
-use Rattle.std.specs.List.{AllZip, filter, flat_map}
+use Rattle.std.proofs.Common.{◌≡◌, ◌⊎◌, List, [], map, inl, inr, sym, ap, subst}
+use Rattle.std.specs.List.{AllZip, filter}
 use Rattle.std.specs.Option.{is_none}
 use Rattle.std.specs.declared.result.Result.TheVariants.{Ok, Err}
 use Rattle.cedar_data.specs.Firsts.{AllPass}
 use Rattle.cedar_data.specs.Maps.{map_values}
 use Rattle.cedar_declared.specs.Held.{names_of}
-use Rattle.cedar_declared.specs.Names.{Names, target}
+use Rattle.cedar_declared.specs.Names.{target}
 use Rattle.cedar_declared.specs.Targets.{resolving}
 use Rattle.cedar_declared.specs.declared.all_defs.AllDefs.{AllDefs}
 use Rattle.cedar_names.specs.Components.{components}
@@ -26,21 +26,20 @@ use Rattle.cedar_schema_error.specs.Told.{told_use}
 use Rattle.cedar_schema_error.specs.declared.schema_error.SchemaError.{SchemaError}
 use Rattle.cedar_schema_error.specs.declared.use_place.UsePlace.{UsePlace}
 use Rattle.cedar_schema_error.specs.Refusals as refusal
-use Rattle.cedar_sound.specs.References.{reference_phases}
 use Rattle.cedar_sound.specs.Sound.{Passes, References, RefusesAt, Unfolding}
-use Rattle.cedar_sound.proofs.NothingMissed.{IsWhole, commons_whole, none_of_all, pass_unmap, pass_weaker, uses_whole}
+use Rattle.cedar_sound.proofs.NothingMissed.{IsWhole, commons_whole, none_of_all, pass_unmap, uses_whole}
 use Rattle.cedar_tables.specs.Outlines.{use_in}
 use Rattle.cedar_text.specs.Words.{has_word}
 use Rattle.cedar_unfold.specs.Full.{by_place, job_of}
 use Rattle.cedar_unfold.specs.Resolved.{Resolved}
 use Rattle.cedar_unfold.specs.Tables.{by_name}
-use Rattle.cedar_unfold.specs.UnfoldPhases.{IsUnfolded, Unfoldable, WhyNotUnfoldable, full_job}
+use Rattle.cedar_unfold.specs.UnfoldPhases.{IsUnfolded, Unfoldable, UsePasses, WhyNotUnfoldable, full_job}
 use Rattle.cedar_unfold.specs.Written.{Written, references}
 use Rattle.cedar_unfold.specs.WrittenViews.{written_type}
 use Rattle.cedar_world.specs.DefinitionViews.{common_type_in, type_in}
-use Rattle.cedar_world.specs.Missing.{first_alone, missing_in, missing_types}
+use Rattle.cedar_world.specs.Missing.{first_alone, missing_in}
 use Rattle.cedar_world.specs.Qualified.{QualifiesAt, QualifiesJob}
-use Rattle.cedar_world.specs.Worlds.{World, all_namespaces, common_types, job, names, uses}
+use Rattle.cedar_world.specs.Worlds.{World, all_namespaces, common_types, job, meanings, names, uses}
 use Rattle.cedar_written.specs.Answers.{all_values}
 use Rattle.cedar_written.specs.Through.{through_type}
 use Rattle.cedar_written.specs.declared.conditional_name.ConditionalName.{ConditionalName}
@@ -64,12 +63,12 @@ module _ (W : World) (all_defs : AllDefs) (ds : List Definition) (X : Extensions
       → (all_values (map_values (through_type (resolving (names_of all_defs))) commons) ≡ Err e) ⊎ (all_values (map_values (through_type (resolving (names_of all_defs))) used) ≡ Err e) → ⊥
   never_refused e passes (inl refused) = one_misses (names_of all_defs) commons e refused
       (none_of_all (λ c. missing_in (names_of all_defs) (type_in c.1)) commons
-        (subst (λ (f : Written NameReference → List NameReference). AllPass (λ (c : InternalName × SchemaType ConditionalName). f (type_in c.1) ≡ []) commons) missed_alike
-        (pass_unmap (λ c. IsWhole (names W) c.1) common_type_in commons (subst (AllPass (λ c. IsWhole (names W) c.1)) (sym commons_are) (commons_whole (names W) (all_namespaces W) passes.0)))))
+      (subst (λ (f : Written NameReference → List NameReference). AllPass (λ (c : InternalName × SchemaType ConditionalName). f (type_in c.1) ≡ []) commons) missed_alike
+      (pass_unmap (λ c. IsWhole (names W) c.1) common_type_in commons (subst (AllPass (λ c. IsWhole (names W) c.1)) (sym commons_are) (commons_whole (names W) (all_namespaces W) passes.0)))))
   never_refused e passes (inr refused) = one_misses (names_of all_defs) used e refused
       (none_of_all (λ u. missing_in (names_of all_defs) (type_in u.1)) used
-        (subst (λ (f : Written NameReference → List NameReference). AllPass (λ (u : UsePlace × SchemaType ConditionalName). f (type_in u.1) ≡ []) used) missed_alike
-        (pass_unmap (λ u. IsWhole (names W) u.1) use_in used (subst (AllPass (λ u. IsWhole (names W) u.1)) (sym uses_are) (uses_whole (names W) (all_namespaces W) passes.0)))))
+      (subst (λ (f : Written NameReference → List NameReference). AllPass (λ (u : UsePlace × SchemaType ConditionalName). f (type_in u.1) ≡ []) used) missed_alike
+      (pass_unmap (λ u. IsWhole (names W) u.1) use_in used (subst (AllPass (λ u. IsWhole (names W) u.1)) (sym uses_are) (uses_whole (names W) (all_namespaces W) passes.0)))))
 
   module _ (full : List (InternalName × SchemaType InternalName)) (full_uses : List (UsePlace × SchemaType InternalName))
       (walked : all_values (map_values (through_type (resolving (names_of all_defs))) commons) ≡ Ok full)
@@ -97,3 +96,8 @@ module _ (W : World) (all_defs : AllDefs) (ds : List Definition) (X : Extensions
     pub unfolded : (cs : List (FullName × Resolved)) (us : List (refusal.UsePlace × Resolved)) → IsUnfolded (job_of (by_name written_full full) (by_place written_full full_uses) X) cs us → IsUnfolded (job W) cs us
     unfolded cs us u = unfolded_back (job W) (by_name written_full full) (by_place written_full full_uses) qualifies cs us
         (subst (λ known. IsUnfolded (full_job (by_name written_full full) (by_place written_full full_uses) known) cs us) extensions_same u)
+
+-- each use of an unfoldable world passes
+pub uses_pass : (W : World) → Passes W Unfolding → AllPass (UsePasses (meanings W)) (uses W)
+unfolding Unfoldable
+uses_pass W h = h.1.1.1.0

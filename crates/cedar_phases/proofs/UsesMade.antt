@@ -6,16 +6,14 @@ use Rattle.std.specs.List.{AllZip}
 use Rattle.std.specs.Map.{lookup}
 use Rattle.std.specs.Option.{option_map}
 use Rattle.cedar_data.specs.Firsts.{AllPass}
-use Rattle.cedar_data.specs.Maps.{get}
 use Rattle.cedar_hierarchy.specs.Uses.{type_at_use, use_cmp}
 use Rattle.cedar_names.specs.declared.entity_uid.EntityUID.{EntityUID}
 use Rattle.cedar_names.specs.declared.name.EntityType.{EntityType}
 use Rattle.cedar_names.specs.Names.{entity_words}
-use Rattle.cedar_names.specs.Order.{words_cmp}
 use Rattle.cedar_phases.proofs.Chained.{lookup_through, unchanged}
 use Rattle.cedar_qualified.proofs.AlikeLookups.{BothOrNeither, none_there, same_lookups, there_by}
-use Rattle.cedar_schema_error.specs.FullNames.{FullName, Uid, uid_cmp, uid_in}
-use Rattle.cedar_schema_error.specs.NameReferences.{ActionReference, NameReference}
+use Rattle.cedar_schema_error.specs.FullNames.{FullName, Uid, uid_in}
+use Rattle.cedar_schema_error.specs.NameReferences.{NameReference}
 use Rattle.cedar_schema_error.specs.Refusals.{Context, Shape, Tags, UsePlace}
 use Rattle.cedar_schema_error.specs.Told.{told_use}
 use Rattle.cedar_schema_error.specs.declared.use_place.UsePlace as code

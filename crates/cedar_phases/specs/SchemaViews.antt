@@ -1,6 +1,6 @@
 -- SPDX-License-Identifier: Apache-2.0
 -- What a resolved schema is, places aside.
-use Rattle.std.specs.Prelude.{◌≡◌, List, Option, map}
+use Rattle.std.specs.Prelude.{◌≡◌, List, map}
 use Rattle.std.specs.Option.{option_map}
 use Rattle.cedar_data.specs.Firsts.{AllPass}
 use Rattle.cedar_names.specs.Names.{entity_words}
@@ -51,6 +51,10 @@ action_in a = (uid_in a.0, action_of a.1)
 -- a schema
 abbrev pub schema_in : ValidatorSchema → Schema
 schema_in S = record { entity_types = map entity_in (types S); actions = map action_in (action_types S) }
+
+-- the entity types of a schema under their names
+abbrev pub types_of : ValidatorSchema → List (EntityType × ValidatorEntityType)
+types_of S = types S
 
 -- each entity type and each action stands under its own name
 pub record IsNamed (S : ValidatorSchema) : Type 0 where

@@ -1,13 +1,16 @@
 // SPDX-License-Identifier: Apache-2.0
-ghost use Rattle.std.specs.Prelude.{◌≡◌, None, Some, List, IfOk};
-ghost use Rattle.std.specs.List.{filter};
+ghost use Rattle.std.specs.Prelude.{◌≡◌, None, Some, List, map, IfOk};
+ghost use Rattle.std.specs.List.{AllZip, filter};
 ghost use Rattle.cedar_data.specs.Answers.{IfRefused};
 ghost use Rattle.cedar_declared.specs.Held.{names_of};
+ghost use Rattle.cedar_hierarchy.specs.Made.{MakesEntity};
 ghost use Rattle.cedar_phases.specs.Holding.{AllPassed, HoldsUnfolded, OneRefuses, last_phases};
 ghost use Rattle.cedar_phases.specs.NotDeclared.{AreNotDeclared};
-ghost use Rattle.cedar_phases.specs.SchemaViews.{IsNamed, schema_in};
+ghost use Rattle.cedar_phases.specs.SchemaViews.{IsNamed, schema_in, types_of};
+ghost use Rattle.cedar_resolved.specs.Schemas.{action_types};
 ghost use Rattle.cedar_schema_error.specs.FullNames.{FullName};
 ghost use Rattle.cedar_schema_error.specs.Told.{told};
+ghost use Rattle.cedar_tables.specs.Outlines.{entity_outline_in};
 ghost use Rattle.cedar_undeclared.specs.Undeclared.{is_free, undeclared_refusal};
 ghost use Rattle.cedar_world.specs.Denotes.{Denotes};
 ghost use Rattle.cedar_world.specs.Worlds.{World};
@@ -18,7 +21,7 @@ use cedar_data::{Failure, Map, Out};
 use cedar_declared::AllDefs;
 use cedar_hierarchy::{resolved_actions, resolved_entity_types};
 use cedar_names::{EntityType, EntityUID, InternalName};
-use cedar_resolved::ValidatorSchema;
+use cedar_resolved::{ValidatorActionId, ValidatorSchema};
 use cedar_schema_error::SchemaError;
 use cedar_tables::{ActionOutline, EntityOutline};
 use cedar_undeclared::{undeclared_error, undeclared_names};
@@ -44,6 +47,32 @@ fn refuse_undeclared(
     }
 }
 
+/// The schema of the entity types of outlines, and of these actions. Refused with the names that must be entity types,
+/// and are none: those in full types, and the others that are given.
+fn finish(
+    alloc: Global,
+    all_defs: &AllDefs,
+    types: &UnfoldedTypes,
+    others: Vec<InternalName>,
+    entity_types: Map<EntityType, EntityOutline>,
+    actions: Map<EntityUID, ValidatorActionId>,
+) -> Out<ValidatorSchema, SchemaError>
+    ensures declared { IfOk result (λ _. (ns : List FullName) × AreNotDeclared (names_of all_defs.now) types.now.full.common_types types.now.full.uses others.items ns
+        × (undeclared_refusal (filter is_free ns) ≡ None)) }
+    ensures entity_types { IfOk result (λ S. AllZip (MakesEntity (names_of all_defs.now) (map entity_outline_in entity_types) types.now.uses) entity_types (types_of S)) }
+    ensures actions { IfOk result (λ S. action_types S ≡ actions) }
+    ensures refused { IfRefused result (λ e. (ns : List FullName) × AreNotDeclared (names_of all_defs.now) types.now.full.common_types types.now.full.uses others.items ns
+        × (undeclared_refusal (filter is_free ns) ≡ Some (told e))) }
+{
+    match refuse_undeclared(alloc, all_defs, &types.full, others.as_slice()) {
+        Ok(()) => {
+            let entity_types = resolved_entity_types(alloc, all_defs, entity_types, &types.uses)?;
+            Ok(ValidatorSchema::from_parts(entity_types, actions))
+        }
+        Err(failure) => Err(failure),
+    }
+}
+
 /// The schema of these entity types and actions, with what the uses of types unfold to. Refused where an action descends
 /// from itself; else with the names that must be entity types, and are none.
 pub(crate) fn assemble(
@@ -59,8 +88,8 @@ pub(crate) fn assemble(
     ensures refused { IfRefused result (λ e. (W : World) → HoldsUnfolded W all_defs.now types.now.full.common_types types.now.full.uses types.now.uses entity_types actions → OneRefuses W last_phases (told e)) }
 {
     let memberships = membership_names(alloc, all_defs, &entity_types, &actions)?;
-    let actions = resolved_actions(alloc, all_defs, actions, &types.uses)?;
-    refuse_undeclared(alloc, all_defs, &types.full, memberships.as_slice())?;
-    let entity_types = resolved_entity_types(alloc, all_defs, entity_types, &types.uses)?;
-    Ok(ValidatorSchema::from_parts(entity_types, actions))
+    match resolved_actions(alloc, all_defs, actions, &types.uses) {
+        Ok(actions) => finish(alloc, all_defs, types, memberships, entity_types, actions),
+        Err(failure) => Err(failure),
+    }
 }

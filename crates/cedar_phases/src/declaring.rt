@@ -1,8 +1,10 @@
 // SPDX-License-Identifier: Apache-2.0
-ghost use Rattle.std.specs.Prelude.{◌≡◌, ◌++◌, OnOk, IfOk, map};
+ghost use Rattle.std.specs.Prelude.{◌≡◌, ◌++◌, OnOk, IfOk};
 ghost use Rattle.std.specs.List.{flat_map};
 ghost use Rattle.cedar_data.specs.Answers.{IfRefused};
+ghost use Rattle.cedar_declared.specs.Gathering.{declared_names};
 ghost use Rattle.cedar_declared.specs.Held.{names_of};
+ghost use Rattle.cedar_declared.specs.Names.{SameNames};
 ghost use Rattle.cedar_definitions.specs.Structures.{definitions_of};
 ghost use Rattle.cedar_phases.specs.Holding.{Holds, world_of};
 ghost use Rattle.cedar_schema_error.specs.Told.{told};
@@ -44,6 +46,7 @@ fn push_all<T: Drop>(items: &mut Vec<T>, more: Vec<T>) -> Mem<()>
 }
 
 /// The definitions of all fragments, in order.
+#[tactic(auto, using(cedar_tables::proofs::Appended::appended))]
 fn all_definitions(alloc: Global, fragments: Vec<Fragment>) -> Mem<Vec<Definition>>
     ensures { IfOk result (λ all. all.items ≡ flat_map definitions_of fragments.items) }
 {
@@ -63,6 +66,46 @@ fn join(alloc: Global, fragments: Vec<Fragment>, last: Fragment) -> Mem<Fragment
     Ok(ValidatorSchemaFragment::from_namespaces(all))
 }
 
+/// All definitions of fragments, with the builtin types and their aliases, where `own` has the names of the fragments.
+fn declare_all(
+    alloc: Global,
+    own: &AllDefs,
+    fragments: Vec<Fragment>,
+    extensions: &Extensions,
+) -> Mem<Declarations>
+    requires { SameNames (names_of own.now) (declared_names (flat_map definitions_of fragments.items)) }
+    ensures { IfOk result (λ d. Holds (world_of fragments.items extensions.now) d.all_defs (definitions_of d.definitions) extensions.now) }
+{
+    let builtins = builtin_definitions(alloc, own, extensions)?;
+    let definitions = join(alloc, fragments, builtins)?;
+    let all_defs = AllDefs::single_fragment(alloc, &definitions)?;
+    Ok(Declarations {
+        all_defs,
+        definitions,
+    })
+}
+
+/// The same. Refused where a name that the fragments declare shadows another.
+fn declare_with(
+    alloc: Global,
+    own: &AllDefs,
+    fragments: Vec<Fragment>,
+    extensions: &Extensions,
+) -> Out<Declarations, SchemaError>
+    requires { SameNames (names_of own.now) (declared_names (flat_map definitions_of fragments.items)) }
+    ensures passes { IfOk result (λ _. Passes (world_of fragments.items extensions.now) Shadowing) }
+    ensures holds { IfOk result (λ d. Holds (world_of fragments.items extensions.now) d.all_defs (definitions_of d.definitions) extensions.now) }
+    ensures refused { IfRefused result (λ e. RefusesAt (world_of fragments.items extensions.now) Shadowing (told e)) }
+{
+    match own.rfc_70_shadowing_checks(alloc) {
+        Ok(()) => {
+            let declarations = declare_all(alloc, own, fragments, extensions)?;
+            Ok(declarations)
+        }
+        Err(failure) => Err(failure),
+    }
+}
+
 /// All definitions of fragments, with the builtin types and their aliases. Refused where a name that the fragments
 /// declare shadows another.
 pub(crate) fn declare(
@@ -75,12 +118,5 @@ pub(crate) fn declare(
     ensures refused { IfRefused result (λ e. RefusesAt (world_of fragments.items extensions.now) Shadowing (told e)) }
 {
     let own = AllDefs::new(alloc, fragments.as_slice())?;
-    own.rfc_70_shadowing_checks(alloc)?;
-    let builtins = builtin_definitions(alloc, &own, extensions)?;
-    let definitions = join(alloc, fragments, builtins)?;
-    let all_defs = AllDefs::single_fragment(alloc, &definitions)?;
-    Ok(Declarations {
-        all_defs,
-        definitions,
-    })
+    declare_with(alloc, &own, fragments, extensions)
 }

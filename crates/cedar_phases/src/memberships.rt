@@ -1,46 +1,19 @@
 // SPDX-License-Identifier: Apache-2.0
-ghost use Rattle.std.specs.Prelude.{◌≡◌, ◌++◌, map, IfOk, OnOk};
+ghost use Rattle.std.specs.Prelude.{◌≡◌, ◌++◌, ◌∷◌, [], map, IfOk, OnOk};
 ghost use Rattle.std.specs.List.{flat_map};
-ghost use Rattle.std.specs.Option.{option_copied};
 ghost use Rattle.cedar_declared.specs.Held.{names_of};
-ghost use Rattle.cedar_declared.specs.Names.{is_declared, targets};
-ghost use Rattle.cedar_declared.specs.Targets.{found};
+ghost use Rattle.cedar_declared.specs.Names.{targets};
 ghost use Rattle.cedar_names.specs.Components.{components};
 ghost use Rattle.cedar_schema_error.specs.NameReferences.{reference_of};
 ghost use Rattle.cedar_tables.specs.Outlines.{action_outline_in, entity_outline_in, parts_of_action};
 
 use cedar_data::{Dup, Map, Mem, Set};
 use cedar_declared::AllDefs;
-use cedar_fragment::{ConditionalName, ReferenceType};
+use cedar_fragment::ConditionalName;
+use cedar_hierarchy::find_target;
 use cedar_names::{EntityType, EntityUID, InternalName};
 use cedar_tables::{ActionOutline, EntityOutline};
 use std::alloc::Global;
-
-/// Whether the name is declared as what the kind allows.
-fn is_declared(all_defs: &AllDefs, kind: ReferenceType, name: &InternalName) -> bool
-    ensures { result ≡ is_declared (names_of all_defs.now) kind (components name.now) }
-{
-    match kind {
-        ReferenceType::Common => all_defs.is_defined_as_common(name),
-        ReferenceType::Entity => all_defs.is_defined_as_entity(name),
-        ReferenceType::CommonOrEntity => {
-            all_defs.is_defined_as_common(name) || all_defs.is_defined_as_entity(name)
-        }
-    }
-}
-
-/// The full name that a reference means, if it means one. It takes no memory.
-fn find_target<'a>(all_defs: &AllDefs, name: &'a ConditionalName) -> Option<&'a InternalName>
-    ensures { option_copied result ≡ found (names_of all_defs.now) name.now }
-{
-    let kind = name.reference_type();
-    for possibility in name.possibilities() {
-        if is_declared(all_defs, kind, possibility) {
-            return Some(possibility);
-        }
-    }
-    None
-}
 
 /// Puts the name that a reference means behind the others, if it means one.
 fn push_target(
@@ -52,13 +25,18 @@ fn push_target(
     ensures { OnOk result (map components names.new.items ≡ map components names.old.items
         ++ targets (names_of all_defs.now) (reference_of reference.now ∷ [])) }
 {
-    if let Some(name) = find_target(all_defs, reference) {
-        names.push(name.dup(alloc)?)?;
+    match find_target(all_defs, reference) {
+        None => Ok(()),
+        Some(name) => {
+            let name = name.dup(alloc)?;
+            names.push(name)?;
+            Ok(())
+        }
     }
-    Ok(())
 }
 
 /// Puts the names that references mean behind the others, in order.
+#[tactic(auto, using(cedar_tables::proofs::Appended::appended))]
 fn push_targets(
     alloc: Global,
     all_defs: &AllDefs,
@@ -75,6 +53,7 @@ fn push_targets(
 }
 
 /// Puts the names that the parents of entity types mean behind the others, in order.
+#[tactic(auto, using(cedar_tables::proofs::Appended::appended))]
 fn push_parents(
     alloc: Global,
     all_defs: &AllDefs,
@@ -100,11 +79,23 @@ fn push_application(
     ensures { OnOk result (map components names.new.items ≡ map components names.old.items
         ++ targets (names_of all_defs.now) ((parts_of_action outline.now).principals ++ (parts_of_action outline.now).resources)) }
 {
-    push_targets(alloc, all_defs, &outline.applies_to.principal_apply_spec, names)?;
-    push_targets(alloc, all_defs, &outline.applies_to.resource_apply_spec, names)
+    push_targets(
+        alloc,
+        all_defs,
+        &outline.applies_to.principal_apply_spec,
+        names,
+    )?;
+    push_targets(
+        alloc,
+        all_defs,
+        &outline.applies_to.resource_apply_spec,
+        names,
+    )?;
+    Ok(())
 }
 
 /// Puts the names of what actions apply to behind the others, in order: of each its principals, and then its resources.
+#[tactic(auto, using(cedar_tables::proofs::Appended::appended))]
 fn push_applications(
     alloc: Global,
     all_defs: &AllDefs,

@@ -11,7 +11,7 @@ ghost use Rattle.cedar_world.specs.Worlds.{World};
 
 use crate::assembling::assemble;
 use crate::checking::check_definitions;
-use crate::declaring::{Declarations, declare};
+use crate::declaring::{Declarations, Fragment, declare};
 use crate::unfolding::unfolded_types;
 use cedar_data::Out;
 use cedar_declared::AllDefs;
@@ -55,8 +55,26 @@ fn resolve_tables(
         entity_types,
         actions,
     } = tables;
-    let types = unfolded_types(alloc, all_defs, common_types, uses, extensions)?;
-    assemble(alloc, all_defs, &types, entity_types, actions)
+    match unfolded_types(alloc, all_defs, common_types, uses, extensions) {
+        Ok(types) => assemble(alloc, all_defs, &types, entity_types, actions),
+        Err(failure) => Err(failure),
+    }
+}
+
+/// The schema of definitions, each reference of which has a target.
+fn resolve_checked(
+    alloc: Global,
+    all_defs: &AllDefs,
+    definitions: Fragment,
+    extensions: &Extensions,
+) -> Out<ValidatorSchema, SchemaError>
+    ensures passes { IfOk result (λ _. (W : World) → Holds W all_defs.now (definitions_of definitions) extensions.now → Passes W References → AllPassed W later_phases) }
+    ensures denotes { IfOk result (λ S. (W : World) → Holds W all_defs.now (definitions_of definitions) extensions.now → Passes W References → Denotes W (schema_in S)) }
+    ensures named { IfOk result IsNamed }
+    ensures refused { IfRefused result (λ e. (W : World) → Holds W all_defs.now (definitions_of definitions) extensions.now → Passes W References → OneRefuses W later_phases (told e)) }
+{
+    let tables = tables_of(alloc, definitions.into_definitions())?;
+    resolve_tables(alloc, all_defs, tables, extensions)
 }
 
 /// The schema that declarations denote. Refused where a reference has no target, and for what comes after.
@@ -75,9 +93,10 @@ fn resolve_declarations(
         all_defs,
         definitions,
     } = declarations;
-    check_definitions(alloc, &all_defs, &definitions)?;
-    let tables = tables_of(alloc, definitions.into_definitions())?;
-    resolve_tables(alloc, &all_defs, tables, extensions)
+    match check_definitions(alloc, &all_defs, &definitions) {
+        Ok(()) => resolve_checked(alloc, &all_defs, definitions, extensions),
+        Err(failure) => Err(failure),
+    }
 }
 
 impl FromSchemaFragments for ValidatorSchema {
@@ -91,7 +110,9 @@ impl FromSchemaFragments for ValidatorSchema {
         ensures named { IfOk result IsNamed }
         ensures refused { IfRefused result (λ e. Cause (world_of fragments.items extensions.now) (told e)) }
     {
-        let declarations = declare(alloc, fragments, extensions)?;
-        resolve_declarations(alloc, declarations, extensions)
+        match declare(alloc, fragments, extensions) {
+            Ok(declarations) => resolve_declarations(alloc, declarations, extensions),
+            Err(failure) => Err(failure),
+        }
     }
 }

@@ -1,5 +1,5 @@
 // SPDX-License-Identifier: Apache-2.0
-ghost use Rattle.std.specs.Prelude.{◌≡◌, ◌⊎◌, IfOk};
+ghost use Rattle.std.specs.Prelude.{◌≡◌, ◌⊎◌, IfOk, List};
 ghost use Rattle.std.specs.List.{AllZip};
 ghost use Rattle.std.specs.declared.result.Result.TheVariants.{Ok, Err};
 ghost use Rattle.cedar_data.specs.Answers.{IfRefused};
@@ -10,10 +10,12 @@ ghost use Rattle.cedar_names.specs.Components.{components};
 ghost use Rattle.cedar_phases.specs.Holding.{HoldsTypes, uses_of};
 ghost use Rattle.cedar_schema_error.specs.Told.{told};
 ghost use Rattle.cedar_sound.specs.Sound.{Passes, RefusesAt, Unfolding};
-ghost use Rattle.cedar_unfold.specs.Full.{by_place};
+ghost use Rattle.cedar_unfold.specs.Full.{by_place, job_of};
+ghost use Rattle.cedar_schema_error.specs.FullNames.{FullName};
+ghost use Rattle.cedar_unfold.specs.Resolved.{Resolved};
 ghost use Rattle.cedar_unfold.specs.ResolvedViews.{resolved};
 ghost use Rattle.cedar_unfold.specs.Tables.{by_name};
-ghost use Rattle.cedar_unfold.specs.UnfoldPhases.{UnfoldsAt};
+ghost use Rattle.cedar_unfold.specs.UnfoldPhases.{IsUnfolded, Unfoldable, UnfoldsAt, WhyNotUnfoldable};
 ghost use Rattle.cedar_unfold.specs.WrittenViews.{written_type};
 ghost use Rattle.cedar_world.specs.Qualified.{QualifiesJob};
 ghost use Rattle.cedar_world.specs.Worlds.{World, job};
@@ -26,7 +28,7 @@ use cedar_fragment::{ConditionalName, SchemaType, Walk};
 use cedar_names::{Extensions, InternalName};
 use cedar_schema_error::{SchemaError, UsePlace};
 use cedar_types::Type;
-use cedar_unfold::unfold_uncounted;
+use cedar_unfold::{Unfolded, unfold_uncounted};
 use std::alloc::Global;
 
 /// Types over full names: common types by name, and uses of types by place.
@@ -65,6 +67,26 @@ pub(crate) struct UnfoldedTypes {
     pub uses: Map<UsePlace, Type>,
 }
 
+/// What the uses of full types unfold to, with these types. Refused where they don't.
+fn unfold_full(
+    alloc: Global,
+    full: FullTypes,
+    extensions: &Extensions,
+) -> Out<UnfoldedTypes, SchemaError>
+    ensures full { IfOk result (λ u. u.full ≡ full) }
+    ensures done { IfOk result (λ _. Unfoldable (job_of (by_name (written_type components) full.common_types) (by_place (written_type components) full.uses) extensions.now)) }
+    ensures unfolded { IfOk result (λ u. (cs : List (FullName × Resolved)) × IsUnfolded (job_of (by_name (written_type components) full.common_types) (by_place (written_type components) full.uses) extensions.now) cs (by_place resolved u.uses)) }
+    ensures refused { IfRefused result (λ e. WhyNotUnfoldable (job_of (by_name (written_type components) full.common_types) (by_place (written_type components) full.uses) extensions.now) (told e)) }
+{
+    match unfold_uncounted(alloc, &full.common_types, &full.uses, extensions) {
+        Ok(unfolded) => {
+            let Unfolded { uses, .. } = unfolded;
+            Ok(UnfoldedTypes { full, uses })
+        }
+        Err(failure) => Err(failure),
+    }
+}
+
 /// What the uses of types unfold to, with the common types and each reference's full name. Refused where they don't.
 pub(crate) fn unfolded_types(
     alloc: Global,
@@ -80,10 +102,8 @@ pub(crate) fn unfolded_types(
         → AllZip (UnfoldsAt (job W)) (uses_of W) (by_place resolved u.uses)) }
     ensures refused { IfRefused result (λ e. (W : World) → HoldsTypes W all_defs.now extensions.now common_types uses → RefusesAt W Unfolding (told e)) }
 {
-    let full = full_types(alloc, all_defs, common_types, uses)?;
-    let unfolded = unfold_uncounted(alloc, &full.common_types, &full.uses, extensions)?;
-    Ok(UnfoldedTypes {
-        full,
-        uses: unfolded.uses,
-    })
+    match full_types(alloc, all_defs, common_types, uses) {
+        Ok(full) => unfold_full(alloc, full, extensions),
+        Err(failure) => Err(failure),
+    }
 }

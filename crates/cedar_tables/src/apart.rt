@@ -53,9 +53,11 @@ fn joined(
     entities: EntitySplits,
     actions: ActionSplits,
 ) -> Mem<Tables>
-    requires { IsSortedMap use_cmp ((entities.shapes.items ++ entities.tags.items) ++ actions.contexts.items) }
+    requires { IsSortedMap use_cmp
+        ((entities.shapes.items ++ entities.tags.items) ++ actions.contexts.items) }
     ensures common_types { IfOk result (λ t. t.common_types ≡ common_types) }
-    ensures uses { IfOk result (λ t. t.uses ≡ (entities.shapes.items ++ entities.tags.items) ++ actions.contexts.items) }
+    ensures uses { IfOk result (λ t. t.uses
+        ≡ (entities.shapes.items ++ entities.tags.items) ++ actions.contexts.items) }
     ensures entity_types { IfOk result (λ t. t.entity_types ≡ entities.outlines) }
     ensures actions { IfOk result (λ t. t.actions ≡ actions.outlines) }
 {
@@ -70,9 +72,11 @@ fn joined(
 
 /// The tables of what is declared. Of several of one name the last counts.
 fn tables_from(alloc: Global, declared: Declarations) -> Mem<Tables>
-    ensures common_types { IfOk result (λ t. t.common_types ≡ map_of internal_cmp declared.common_types.items) }
-    ensures uses { IfOk result (λ t. t.uses
-        ≡ all_uses (map_of entity_cmp declared.entity_types.items) (map_of action_cmp declared.actions.items)) }
+    ensures common_types { IfOk result (λ t. t.common_types
+        ≡ map_of internal_cmp declared.common_types.items) }
+    ensures uses { IfOk result (λ t. t.uses ≡ all_uses
+        (map_of entity_cmp declared.entity_types.items)
+        (map_of action_cmp declared.actions.items)) }
     ensures entity_types { IfOk result (λ t. t.entity_types
         ≡ map_values outline_of (map_of entity_cmp declared.entity_types.items)) }
     ensures actions { IfOk result (λ t. t.actions
@@ -89,8 +93,9 @@ fn tables_from(alloc: Global, declared: Declarations) -> Mem<Tables>
     joined(alloc, common_types, entities, actions)
 }
 
-/// Definitions taken apart, without a copy of a type: the common types, the uses of types, and what is left of entity
-/// types and actions. Of several of one name the last counts. It fails only for want of memory.
+/// Definitions taken apart, without a copy of a type: the common types, the uses of types, and what
+/// is left of entity types and actions. Of several of one name the last counts. It fails only for
+/// want of memory.
 #[tactic(auto, using(crate::proofs::Views::told))]
 pub fn tables_of(
     alloc: Global,
@@ -98,7 +103,8 @@ pub fn tables_of(
 ) -> Mem<Tables>
     ensures common_types { IfOk result (λ t. map common_type_in t.common_types
         ≡ common_types_in (map namespace_in definitions.items)) }
-    ensures uses { IfOk result (λ t. map use_in t.uses ≡ uses_in (map namespace_in definitions.items)) }
+    ensures uses { IfOk result (λ t. map use_in t.uses
+        ≡ uses_in (map namespace_in definitions.items)) }
     ensures entity_types { IfOk result (λ t. map entity_outline_in t.entity_types
         ≡ map entity_outline (entity_types_in (map namespace_in definitions.items))) }
     ensures actions { IfOk result (λ t. map action_outline_in t.actions
@@ -107,7 +113,8 @@ pub fn tables_of(
         ≡ map_of entity_cmp (flat_map entity_places definitions.items)) }
     ensures action_places { IfOk result (λ t. map action_place t.actions
         ≡ map_of action_cmp (flat_map action_places definitions.items)) }
-    ensures kept_common_types { IfOk result (λ t. t.common_types ≡ map_of internal_cmp (common_types_of definitions.items)) }
+    ensures kept_common_types { IfOk result (λ t. t.common_types
+        ≡ map_of internal_cmp (common_types_of definitions.items)) }
     ensures kept_uses { IfOk result (λ t. t.uses ≡ uses_kept definitions.items) }
 {
     let declared = Declarations::gather(alloc, definitions)?;

@@ -84,12 +84,12 @@ fn append_entity_types(
 impl Declarations {
     /// Puts what a definition declares behind the others.
     fn append(&mut self, alloc: Global, definition: Definition) -> Mem<()>
-        ensures common_types { OnOk result (self.new.common_types.items ≡ self.old.common_types.items
-            ++ definition.common_types.defs) }
-        ensures entity_types { OnOk result (self.new.entity_types.items ≡ self.old.entity_types.items
-            ++ placed_types definition.entity_types) }
-        ensures actions { OnOk result (self.new.actions.items ≡ self.old.actions.items
-            ++ definition.actions.actions) }
+        ensures common_types { OnOk result (self.new.common_types.items
+            ≡ self.old.common_types.items ++ definition.common_types.defs) }
+        ensures entity_types { OnOk result (self.new.entity_types.items
+            ≡ self.old.entity_types.items ++ placed_types definition.entity_types) }
+        ensures actions { OnOk result (self.new.actions.items
+            ≡ self.old.actions.items ++ definition.actions.actions) }
     {
         append_entries(definition.common_types.defs, &mut self.common_types)?;
         append_entity_types(alloc, definition.entity_types, &mut self.entity_types)?;
@@ -99,8 +99,10 @@ impl Declarations {
     /// What definitions declare, in their order.
     #[tactic(auto, using(crate::proofs::Appended::appended))]
     pub(crate) fn gather(alloc: Global, definitions: Vec<Definition>) -> Mem<Declarations>
-        ensures common_types { IfOk result (λ all. all.common_types.items ≡ common_types_of definitions.items) }
-        ensures entity_types { IfOk result (λ all. all.entity_types.items ≡ entity_types_of definitions.items) }
+        ensures common_types { IfOk result (λ all. all.common_types.items
+            ≡ common_types_of definitions.items) }
+        ensures entity_types { IfOk result (λ all. all.entity_types.items
+            ≡ entity_types_of definitions.items) }
         ensures actions { IfOk result (λ all. all.actions.items ≡ actions_of definitions.items) }
     {
         let mut all = Declarations {

@@ -1,6 +1,6 @@
 // SPDX-License-Identifier: Apache-2.0
-//! Definitions taken apart into tables: common types by name, uses of types by place, and what is left of each entity
-//! type and each action without its types.
+//! Definitions taken apart into tables: common types by name, uses of types by place, and what is
+//! left of each entity type and each action without its types.
 #![tactic(auto)]
 
 mod apart;

@@ -138,9 +138,12 @@ impl EntitySplits {
     /// Puts an entity type behind the others. Its name is after all others.
     fn push(&mut self, alloc: Global, name: EntityType, entity: PlacedEntity) -> Mem<()>
         requires { IsStrictlySortedBy entity_cmp (keys_of self.old.outlines ++ name ∷ []) }
-        ensures outlines { OnOk result (self.new.outlines ≡ self.old.outlines ++ (name, outline_of entity) ∷ []) }
-        ensures shapes { OnOk result (self.new.shapes.items ≡ self.old.shapes.items ++ shape_use (name, entity)) }
-        ensures tags { OnOk result (self.new.tags.items ≡ self.old.tags.items ++ tags_use (name, entity)) }
+        ensures outlines { OnOk result (self.new.outlines
+            ≡ self.old.outlines ++ (name, outline_of entity) ∷ []) }
+        ensures shapes { OnOk result (self.new.shapes.items
+            ≡ self.old.shapes.items ++ shape_use (name, entity)) }
+        ensures tags { OnOk result (self.new.tags.items
+            ≡ self.old.tags.items ++ tags_use (name, entity)) }
     {
         let EntityPieces {
             outline,
@@ -173,10 +176,14 @@ impl EntitySplits {
 
     /// The entity types, parted. Of several of one name the last counts.
     pub(crate) fn new(alloc: Global, entities: Vec<(EntityType, PlacedEntity)>) -> Mem<EntitySplits>
-        ensures outlines { IfOk result (λ s. s.outlines ≡ map_values outline_of (map_of entity_cmp entities.items)) }
-        ensures shapes { IfOk result (λ s. s.shapes.items ≡ flat_map shape_use (map_of entity_cmp entities.items)) }
-        ensures tags { IfOk result (λ s. s.tags.items ≡ flat_map tags_use (map_of entity_cmp entities.items)) }
-        ensures ordered { IfOk result (λ _. IsSortedMap entity_cmp (map_of entity_cmp entities.items)) }
+        ensures outlines { IfOk result (λ s. s.outlines
+            ≡ map_values outline_of (map_of entity_cmp entities.items)) }
+        ensures shapes { IfOk result (λ s. s.shapes.items
+            ≡ flat_map shape_use (map_of entity_cmp entities.items)) }
+        ensures tags { IfOk result (λ s. s.tags.items
+            ≡ flat_map tags_use (map_of entity_cmp entities.items)) }
+        ensures ordered { IfOk result
+            (λ _. IsSortedMap entity_cmp (map_of entity_cmp entities.items)) }
     {
         let entities = Map::from_pairs(alloc, entities)?;
         EntitySplits::split(alloc, entities)
@@ -209,7 +216,8 @@ impl ActionSplits {
     /// Puts an action behind the others. Its id is after all others.
     fn push(&mut self, alloc: Global, uid: EntityUID, action: Action) -> Mem<()>
         requires { IsStrictlySortedBy action_cmp (keys_of self.old.outlines ++ uid ∷ []) }
-        ensures outlines { OnOk result (self.new.outlines ≡ self.old.outlines ++ (uid, action_outline_of action) ∷ []) }
+        ensures outlines { OnOk result (self.new.outlines
+            ≡ self.old.outlines ++ (uid, action_outline_of action) ∷ []) }
         ensures contexts { OnOk result (self.new.contexts.items ≡ self.old.contexts.items
             ++ context_use (uid, action) ∷ []) }
     {
@@ -237,9 +245,12 @@ impl ActionSplits {
 
     /// The actions, parted. Of several of one id the last counts.
     pub(crate) fn new(alloc: Global, actions: Vec<(EntityUID, Action)>) -> Mem<ActionSplits>
-        ensures outlines { IfOk result (λ s. s.outlines ≡ map_values action_outline_of (map_of action_cmp actions.items)) }
-        ensures contexts { IfOk result (λ s. s.contexts.items ≡ map context_use (map_of action_cmp actions.items)) }
-        ensures ordered { IfOk result (λ _. IsSortedMap action_cmp (map_of action_cmp actions.items)) }
+        ensures outlines { IfOk result (λ s. s.outlines
+            ≡ map_values action_outline_of (map_of action_cmp actions.items)) }
+        ensures contexts { IfOk result (λ s. s.contexts.items
+            ≡ map context_use (map_of action_cmp actions.items)) }
+        ensures ordered { IfOk result
+            (λ _. IsSortedMap action_cmp (map_of action_cmp actions.items)) }
     {
         let actions = Map::from_pairs(alloc, actions)?;
         ActionSplits::split(alloc, actions)

@@ -1,0 +1,34 @@
+-- SPDX-License-Identifier: Apache-2.0
+use Rattle.std.proofs.Common.{◌++◌}
+use Rattle.cedar_definitions.specs.Structures.{definitions_of}
+use Rattle.cedar_phases.specs.Holding.{AllPassed, Holds, OneRefuses, early_phases, later_phases, world_of}
+use Rattle.cedar_phases.specs.SchemaViews.{schema_in}
+use Rattle.cedar_phases.proofs.Carried.{carried, passed, passed_both, refused}
+use Rattle.cedar_phases.proofs.Composing.{cause_first, cause_later, sound_by}
+use Rattle.cedar_resolved.specs.declared.schema.ValidatorSchema.{ValidatorSchema}
+use Rattle.cedar_schema_error.specs.Told.{told}
+use Rattle.cedar_sound.specs.Sound.{Cause, RefusesAt, Shadowing, Sound}
+use Rattle.cedar_world.specs.Denotes.{Denotes}
+use Rattle.cedar_world.specs.Worlds.{World}
+use Rattle.cedar_phases.specs.declared.declaring.Declarations.{Declarations}
+use Rattle.cedar_phases.proofs.resolving.ValidatorSchemaFromSchemaFragments.from_schema_fragments.Goals as goal
+
+pub returns-in-Ok-clause-sound : goal.returns-in-Ok-clause-sound
+returns-in-Ok-clause-sound c =
+    passed_both (λ _. (W : World) → Holds W c.in-Ok.declarations.all_defs (definitions_of c.in-Ok.declarations.definitions) c.args.extensions.now → AllPassed W early_phases) (λ _. (W : World) → Holds W c.in-Ok.declarations.all_defs (definitions_of c.in-Ok.declarations.definitions) c.args.extensions.now → AllPassed W later_phases) (λ _. Sound (world_of c.args.fragments.items c.args.extensions.now))
+    (λ _ early later. sound_by (world_of c.args.fragments.items c.args.extensions.now) c.in-Ok.ensures.passes (early (world_of c.args.fragments.items c.args.extensions.now) c.in-Ok.ensures.holds) (later (world_of c.args.fragments.items c.args.extensions.now) c.in-Ok.ensures.holds)) c.resolve_declarations.result c.resolve_declarations.ensures.early c.resolve_declarations.ensures.later
+
+pub returns-in-Ok-clause-denotes : goal.returns-in-Ok-clause-denotes
+returns-in-Ok-clause-denotes c =
+    passed (λ S. (W : World) → Holds W c.in-Ok.declarations.all_defs (definitions_of c.in-Ok.declarations.definitions) c.args.extensions.now → Denotes W (schema_in S)) (λ S. Denotes (world_of c.args.fragments.items c.args.extensions.now) (schema_in S))
+    (λ S f. f (world_of c.args.fragments.items c.args.extensions.now) c.in-Ok.ensures.holds) c.resolve_declarations.result c.resolve_declarations.ensures.denotes
+
+pub returns-in-Ok-clause-refused : goal.returns-in-Ok-clause-refused
+returns-in-Ok-clause-refused c =
+    refused (λ e. (W : World) → Holds W c.in-Ok.declarations.all_defs (definitions_of c.in-Ok.declarations.definitions) c.args.extensions.now → OneRefuses W (early_phases ++ later_phases) (told e)) (λ e. Cause (world_of c.args.fragments.items c.args.extensions.now) (told e))
+    (λ e f. cause_later (world_of c.args.fragments.items c.args.extensions.now) (told e) c.in-Ok.ensures.passes (f (world_of c.args.fragments.items c.args.extensions.now) c.in-Ok.ensures.holds)) c.resolve_declarations.result c.resolve_declarations.ensures.refused
+
+pub returns-in-Err-clause-refused : goal.returns-in-Err-clause-refused
+returns-in-Err-clause-refused c =
+    carried Declarations ValidatorSchema (λ e. RefusesAt (world_of c.args.fragments.items c.args.extensions.now) Shadowing (told e)) (λ e. Cause (world_of c.args.fragments.items c.args.extensions.now) (told e))
+    (λ e r. cause_first (world_of c.args.fragments.items c.args.extensions.now) (told e) r) c.in-Err.failure c.in-Err.ensures.refused

@@ -1,0 +1,27 @@
+-- SPDX-License-Identifier: Apache-2.0
+use Rattle.std.proofs.Common.{List}
+use Rattle.cedar_definitions.specs.Structures.{definitions_of}
+use Rattle.cedar_phases.specs.Holding.{AllPassed, AreTables, Definition, Holds, OneRefuses, later_phases}
+use Rattle.cedar_phases.specs.SchemaViews.{schema_in}
+use Rattle.cedar_phases.proofs.Carried.{passed, refused}
+use Rattle.cedar_schema_error.specs.Told.{told}
+use Rattle.cedar_sound.specs.Sound.{Passes, References}
+use Rattle.cedar_world.specs.Denotes.{Denotes}
+use Rattle.cedar_world.specs.Worlds.{World}
+use Rattle.cedar_phases.proofs.DeclaredTables.{tables_held}
+use Rattle.cedar_phases.proofs.resolving.resolve_checked.Goals as goal
+
+pub returns-clause-passes : goal.returns-clause-passes
+returns-clause-passes c =
+    passed (λ _. (W : World) (ds : List Definition) → Holds W c.args.all_defs.now ds c.args.extensions.now → AreTables W c.in_ok-tables.tables → Passes W References → AllPassed W later_phases) (λ _. (W : World) → Holds W c.args.all_defs.now (definitions_of c.args.definitions) c.args.extensions.now → Passes W References → AllPassed W later_phases)
+    (λ _ f W h p. f W (definitions_of c.args.definitions) h (tables_held W c.args.all_defs.now (definitions_of c.args.definitions) c.args.extensions.now h c.into_definitions.result.items c.into_definitions.ensures c.in_ok-tables.tables c.in_ok-tables.ensures.common_types c.in_ok-tables.ensures.uses c.in_ok-tables.ensures.entity_types c.in_ok-tables.ensures.actions) p) c.resolve_tables.result c.resolve_tables.ensures.passes
+
+pub returns-clause-denotes : goal.returns-clause-denotes
+returns-clause-denotes c =
+    passed (λ S. (W : World) (ds : List Definition) → Holds W c.args.all_defs.now ds c.args.extensions.now → AreTables W c.in_ok-tables.tables → Passes W References → Denotes W (schema_in S)) (λ S. (W : World) → Holds W c.args.all_defs.now (definitions_of c.args.definitions) c.args.extensions.now → Passes W References → Denotes W (schema_in S))
+    (λ _ f W h p. f W (definitions_of c.args.definitions) h (tables_held W c.args.all_defs.now (definitions_of c.args.definitions) c.args.extensions.now h c.into_definitions.result.items c.into_definitions.ensures c.in_ok-tables.tables c.in_ok-tables.ensures.common_types c.in_ok-tables.ensures.uses c.in_ok-tables.ensures.entity_types c.in_ok-tables.ensures.actions) p) c.resolve_tables.result c.resolve_tables.ensures.denotes
+
+pub returns-clause-refused : goal.returns-clause-refused
+returns-clause-refused c =
+    refused (λ e. (W : World) (ds : List Definition) → Holds W c.args.all_defs.now ds c.args.extensions.now → AreTables W c.in_ok-tables.tables → Passes W References → OneRefuses W later_phases (told e)) (λ e. (W : World) → Holds W c.args.all_defs.now (definitions_of c.args.definitions) c.args.extensions.now → Passes W References → OneRefuses W later_phases (told e))
+    (λ _ f W h p. f W (definitions_of c.args.definitions) h (tables_held W c.args.all_defs.now (definitions_of c.args.definitions) c.args.extensions.now h c.into_definitions.result.items c.into_definitions.ensures c.in_ok-tables.tables c.in_ok-tables.ensures.common_types c.in_ok-tables.ensures.uses c.in_ok-tables.ensures.entity_types c.in_ok-tables.ensures.actions) p) c.resolve_tables.result c.resolve_tables.ensures.refused
