@@ -2,8 +2,7 @@
 -- From the fragment that a text declares to the schema that the text denotes.
 use Rattle.std.proofs.Common.{◌≡◌, ℕ, List, Result, Ok, Err, IfOk, sym, subst}
 use Rattle.cedar_convert_fragment.specs.Fragments.{Fragment}
-use Rattle.cedar_convert_text.specs.Texts.{DeclaresText, TellsText}
-use Rattle.cedar_convert_text.specs.declared.parsing.CedarSchemaParseErrors.{CedarSchemaParseErrors}
+use Rattle.cedar_convert_text.specs.Texts.{DeclaresText}
 use Rattle.cedar_convert_warnings.specs.declared.warnings.SchemaWarning.{SchemaWarning}
 use Rattle.cedar_data.specs.Answers.{Accepts, IfRefused}
 use Rattle.cedar_data.specs.declared.memory.Failure.{Failure}

@@ -1,9 +1,7 @@
 -- SPDX-License-Identifier: Apache-2.0
 -- A text declares one fragment at most, and none where an error says why it declares none.
-use Rattle.std.proofs.Common.{◌≡◌, inl, inr, ℕ, List, [], ◌∷◌, ◌++◌, map, ap, sym, ◌∙◌, subst, append_assoc}
+use Rattle.std.proofs.Common.{◌≡◌, inl, inr, ℕ, List, [], ◌∷◌, ◌++◌, ap, sym, ◌∙◌, subst, append_assoc}
 use Rattle.std.proofs.lemmas.List.{append-nil}
-use Rattle.cedar_convert_errors.specs.Texts.{fault_list}
-use Rattle.cedar_convert_errors.specs.declared.faults.ToJsonSchemaError.{ToJsonSchemaError}
 use Rattle.cedar_convert_faults.proofs.DeclarationLaws.{fine_where_declared}
 use Rattle.cedar_convert_faults.specs.Faults.{schema_faults}
 use Rattle.cedar_convert_faults.specs.Gathering.{namespaces_of}
@@ -20,7 +18,7 @@ use Rattle.cedar_grammar.specs.Grammar.{OpensAtMost, Reads, Viable}
 use Rattle.cedar_grammar.specs.Stops.{IsFirstStray}
 use Rattle.cedar_syntax.proofs.Completing.{viable_front}
 use Rattle.cedar_syntax.proofs.Wholes.{none_deep, not_too_many, same_tokens}
-use Rattle.cedar_syntax.specs.Causes.{Cause, HasStray, IsFirstTooDeep}
+use Rattle.cedar_syntax.specs.Causes.{Cause, IsFirstTooDeep}
 use Rattle.cedar_syntax.specs.Texts.{HasTokens, ReadsText, open_at_most}
 use Rattle.cedar_tokens.proofs.Lexed.{not_both, one_list}
 use Rattle.cedar_tokens.specs.Lexemes.{TextToken}

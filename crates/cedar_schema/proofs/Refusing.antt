@@ -1,6 +1,6 @@
 -- SPDX-License-Identifier: Apache-2.0
 -- A fragment or a text is sound or refused, not both; what refuses it tells one thing; and it denotes one schema.
-use Rattle.std.proofs.Common.{◌≡◌, inl, inr, ℕ, List, [], ◌∷◌, refl, ap, sym, ◌∙◌, subst}
+use Rattle.std.proofs.Common.{◌≡◌, inl, inr, ℕ, List, ap, sym, ◌∙◌, subst}
 use Rattle.cedar_convert_fragment.specs.Fragments.{Fragment}
 use Rattle.cedar_convert_text.specs.Texts.{DeclaresText, TellsText}
 use Rattle.cedar_convert_text.specs.declared.parsing.CedarSchemaParseErrors.{CedarSchemaParseErrors}

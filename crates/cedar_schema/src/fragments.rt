@@ -12,8 +12,8 @@ ghost use Rattle.cedar_phases.specs.SchemaViews.{IsNamed, schema_in};
 ghost use Rattle.cedar_schema.specs.Fragments.{FragmentCause, SoundFragment, all_extensions, unnamed};
 ghost use Rattle.cedar_schema_error.specs.Told.{told};
 ghost use Rattle.cedar_schema_error.specs.declared.action_behavior.ActionBehavior.TheVariants.{ProhibitAttributes};
-ghost use Rattle.cedar_world.specs.Denotes.{Denotes};
 ghost use Rattle.cedar_world.specs.DefinitionViews.{namespace_in};
+ghost use Rattle.cedar_world.specs.Denotes.{Denotes};
 
 use cedar_data::{Map, Mem, Out};
 use cedar_definitions::ValidatorSchemaFragment;
@@ -27,8 +27,8 @@ use std::alloc::Global;
 
 /// What a fragment denotes, where actions may have no attributes.
 pub trait FromFragment: Sized {
-    /// What the fragment denotes, with all extension types that there are. Refused with the first of what is wrong with
-    /// its definitions, or else with their world.
+    /// What the fragment denotes, with all extension types that there are. Refused with the first
+    /// fault of its definitions, or else with what is wrong with their world.
     fn from_fragment(alloc: Global, fragment: Fragment<RawName>) -> Out<Self, SchemaError>;
 
     /// The same with these extension types.
@@ -51,9 +51,12 @@ fn define(
     fragment: Fragment<RawName>,
     extensions: &Extensions,
 ) -> Out<ValidatorSchemaFragment<ConditionalName, ConditionalName>, SchemaError>
-    ensures namespaces { IfOk result (λ made. map namespace_in (definitions_of made) ≡ namespaces_of (fragment_seen fragment)) }
-    ensures faultless { IfOk result (λ _. fragment_faults ProhibitAttributes (fragment_seen fragment) ≡ []) }
-    ensures refused { IfRefused result (λ e. IsFirst (fragment_faults ProhibitAttributes (fragment_seen fragment)) (told e)) }
+    ensures namespaces { IfOk result (λ made. map namespace_in (definitions_of made)
+        ≡ namespaces_of (fragment_seen fragment)) }
+    ensures faultless { IfOk result (λ _.
+        fragment_faults ProhibitAttributes (fragment_seen fragment) ≡ []) }
+    ensures refused { IfRefused result (λ e.
+        IsFirst (fragment_faults ProhibitAttributes (fragment_seen fragment)) (told e)) }
 {
     ValidatorSchemaFragment::from_schema_fragment(
         alloc,
@@ -69,9 +72,12 @@ fn define_alone(
     fragment: Fragment<RawName>,
     extensions: &Extensions,
 ) -> Out<Vec<ValidatorSchemaFragment<ConditionalName, ConditionalName>>, SchemaError>
-    ensures world { IfOk result (λ made. world_of made.items extensions.now ≡ world_of_fragment (fragment_seen fragment) (extension_words extensions.now)) }
-    ensures faultless { IfOk result (λ _. fragment_faults ProhibitAttributes (fragment_seen fragment) ≡ []) }
-    ensures refused { IfRefused result (λ e. IsFirst (fragment_faults ProhibitAttributes (fragment_seen fragment)) (told e)) }
+    ensures world { IfOk result (λ made. world_of made.items extensions.now
+        ≡ world_of_fragment (fragment_seen fragment) (extension_words extensions.now)) }
+    ensures faultless { IfOk result (λ _.
+        fragment_faults ProhibitAttributes (fragment_seen fragment) ≡ []) }
+    ensures refused { IfRefused result (λ e.
+        IsFirst (fragment_faults ProhibitAttributes (fragment_seen fragment)) (told e)) }
 {
     let definitions = define(alloc, fragment, extensions)?;
     let mut alone = Vec::new(alloc);
@@ -80,11 +86,9 @@ fn define_alone(
 }
 
 /// The fragment of one namespace, which has no name.
-fn unnamed(
-    alloc: Global,
-    namespace_def: NamespaceDefinition<RawName>,
-) -> Mem<Fragment<RawName>>
-    ensures { IfOk result (λ fragment. fragment_seen fragment ≡ unnamed (definition_seen namespace_def)) }
+fn unnamed(alloc: Global, namespace_def: NamespaceDefinition<RawName>) -> Mem<Fragment<RawName>>
+    ensures { IfOk result (λ fragment. fragment_seen fragment
+        ≡ unnamed (definition_seen namespace_def)) }
 {
     let mut namespaces = Map::new(alloc);
     namespaces.put(None, namespace_def)?;
@@ -96,10 +100,13 @@ impl FromFragment for ValidatorSchema {
         alloc: Global,
         fragment: Fragment<RawName>,
     ) -> Out<ValidatorSchema, SchemaError>
-        ensures sound { IfOk result (λ _. SoundFragment ProhibitAttributes all_extensions (fragment_seen fragment)) }
-        ensures denotes { IfOk result (λ schema. Denotes (world_of_fragment (fragment_seen fragment) all_extensions) (schema_in schema)) }
+        ensures sound { IfOk result (λ _.
+            SoundFragment ProhibitAttributes all_extensions (fragment_seen fragment)) }
+        ensures denotes { IfOk result (λ schema.
+            Denotes (world_of_fragment (fragment_seen fragment) all_extensions) (schema_in schema)) }
         ensures named { IfOk result IsNamed }
-        ensures refused { IfRefused result (λ e. FragmentCause ProhibitAttributes all_extensions (fragment_seen fragment) (told e)) }
+        ensures refused { IfRefused result (λ e.
+            FragmentCause ProhibitAttributes all_extensions (fragment_seen fragment) (told e)) }
     {
         let extensions = Extensions::all_available(alloc)?;
         ValidatorSchema::from_fragment_with(alloc, fragment, &extensions)
@@ -110,10 +117,14 @@ impl FromFragment for ValidatorSchema {
         fragment: Fragment<RawName>,
         extensions: &Extensions,
     ) -> Out<ValidatorSchema, SchemaError>
-        ensures sound { IfOk result (λ _. SoundFragment ProhibitAttributes (extension_words extensions.now) (fragment_seen fragment)) }
-        ensures denotes { IfOk result (λ schema. Denotes (world_of_fragment (fragment_seen fragment) (extension_words extensions.now)) (schema_in schema)) }
+        ensures sound { IfOk result (λ _. SoundFragment ProhibitAttributes
+            (extension_words extensions.now) (fragment_seen fragment)) }
+        ensures denotes { IfOk result (λ schema.
+            Denotes (world_of_fragment (fragment_seen fragment) (extension_words extensions.now))
+            (schema_in schema)) }
         ensures named { IfOk result IsNamed }
-        ensures refused { IfRefused result (λ e. FragmentCause ProhibitAttributes (extension_words extensions.now) (fragment_seen fragment) (told e)) }
+        ensures refused { IfRefused result (λ e. FragmentCause ProhibitAttributes
+            (extension_words extensions.now) (fragment_seen fragment) (told e)) }
     {
         match define_alone(alloc, fragment, extensions) {
             Ok(definitions) => {
@@ -127,10 +138,14 @@ impl FromFragment for ValidatorSchema {
         alloc: Global,
         namespace_def: NamespaceDefinition<RawName>,
     ) -> Out<ValidatorSchema, SchemaError>
-        ensures sound { IfOk result (λ _. SoundFragment ProhibitAttributes all_extensions (unnamed (definition_seen namespace_def))) }
-        ensures denotes { IfOk result (λ schema. Denotes (world_of_fragment (unnamed (definition_seen namespace_def)) all_extensions) (schema_in schema)) }
+        ensures sound { IfOk result (λ _. SoundFragment ProhibitAttributes all_extensions
+            (unnamed (definition_seen namespace_def))) }
+        ensures denotes { IfOk result (λ schema.
+            Denotes (world_of_fragment (unnamed (definition_seen namespace_def)) all_extensions)
+            (schema_in schema)) }
         ensures named { IfOk result IsNamed }
-        ensures refused { IfRefused result (λ e. FragmentCause ProhibitAttributes all_extensions (unnamed (definition_seen namespace_def)) (told e)) }
+        ensures refused { IfRefused result (λ e. FragmentCause ProhibitAttributes all_extensions
+            (unnamed (definition_seen namespace_def)) (told e)) }
     {
         let fragment = unnamed(alloc, namespace_def)?;
         ValidatorSchema::from_fragment(alloc, fragment)

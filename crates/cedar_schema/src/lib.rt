@@ -1,5 +1,6 @@
 // SPDX-License-Identifier: Apache-2.0
-//! From texts in the human syntax, and from fragments, to the schemas that they denote; or to why they denote none.
+//! From texts in the human syntax, and from fragments, to the schemas that they denote; or to why
+//! they denote none.
 #![tactic(auto)]
 
 mod fragments;

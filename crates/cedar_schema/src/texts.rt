@@ -34,8 +34,8 @@ pub trait FragmentText: Sized {
 
 /// What a text in the human syntax denotes.
 pub trait FromCedarSchema: Sized {
-    /// What the text denotes with these extension types, and the warnings of its names. Refused with why it declares
-    /// nothing, or else with why what it declares is not sound.
+    /// What the text denotes with these extension types, and the warnings of its names. Refused
+    /// with why it declares nothing, or else with why what it declares is not sound.
     fn from_cedarschema_str(
         alloc: Global,
         src: &str,
@@ -52,9 +52,11 @@ impl FragmentText for Fragment<RawName> {
         src: &str,
         extensions: &Extensions,
     ) -> Out<(Fragment<RawName>, Vec<SchemaWarning>), CedarSchemaError>
-        ensures declares { IfOk result (λ made. DeclaresText src.now (extension_words extensions.now) (fragment_seen made.0) made.1.items) }
+        ensures declares { IfOk result (λ made. DeclaresText src.now (extension_words extensions.now)
+            (fragment_seen made.0) made.1.items) }
         ensures refused { IfRefused result (ParsingCause src.now) }
-        ensures accepts { (F : Declared) (warned : List Warning) → DeclaresText src.now (extension_words extensions.now) F warned
+        ensures accepts { (F : Declared) (warned : List Warning)
+            → DeclaresText src.now (extension_words extensions.now) F warned
             → Accepts (λ made. (fragment_seen made.0 ≡ F) × (made.1.items ≡ warned)) result }
     {
         match parse_cedar_schema_fragment(alloc, src, extensions) {
@@ -68,17 +70,22 @@ impl FragmentText for Fragment<RawName> {
     }
 }
 
-/// The schema that a fragment denotes, with the warnings that are given. Refused with why the fragment is not sound.
+/// The schema that a fragment denotes, with the warnings that are given. Refused with why the
+/// fragment is not sound.
 fn with_schema(
     alloc: Global,
     declared: (Fragment<RawName>, Vec<SchemaWarning>),
     extensions: &Extensions,
 ) -> Out<(ValidatorSchema, Vec<SchemaWarning>), CedarSchemaError>
-    ensures sound { IfOk result (λ _. SoundFragment ProhibitAttributes (extension_words extensions.now) (fragment_seen declared.0)) }
-    ensures denotes { IfOk result (λ made. Denotes (world_of_fragment (fragment_seen declared.0) (extension_words extensions.now)) (schema_in made.0)) }
+    ensures sound { IfOk result (λ _. SoundFragment ProhibitAttributes
+        (extension_words extensions.now) (fragment_seen declared.0)) }
+    ensures denotes { IfOk result (λ made.
+        Denotes (world_of_fragment (fragment_seen declared.0) (extension_words extensions.now))
+        (schema_in made.0)) }
     ensures warnings { IfOk result (λ made. made.1.items ≡ declared.1.items) }
     ensures named { IfOk result (λ made. IsNamed made.0) }
-    ensures refused { IfRefused result (SchemaCause (extension_words extensions.now) (fragment_seen declared.0)) }
+    ensures refused { IfRefused result
+        (SchemaCause (extension_words extensions.now) (fragment_seen declared.0)) }
 {
     let (fragment, warnings) = declared;
     match ValidatorSchema::from_fragment_with(alloc, fragment, extensions) {
@@ -94,11 +101,14 @@ impl FromCedarSchema for ValidatorSchema {
         src: &str,
         extensions: &Extensions,
     ) -> Out<(ValidatorSchema, Vec<SchemaWarning>), CedarSchemaError>
-        ensures denotes { IfOk result (λ made. DenotesSchema src.now (extension_words extensions.now) (schema_in made.0) made.1.items) }
+        ensures denotes { IfOk result (λ made.
+            DenotesSchema src.now (extension_words extensions.now) (schema_in made.0) made.1.items) }
         ensures named { IfOk result (λ made. IsNamed made.0) }
         ensures refused { IfRefused result (TextCause src.now (extension_words extensions.now)) }
-        ensures accepts { (F : Declared) (warned : List Warning) → IsWellFormed src.now (extension_words extensions.now) F warned
-            → Accepts (λ made. Denotes (world_of_fragment F (extension_words extensions.now)) (schema_in made.0) × (made.1.items ≡ warned)) result }
+        ensures accepts { (F : Declared) (warned : List Warning)
+            → IsWellFormed src.now (extension_words extensions.now) F warned
+            → Accepts (λ made. Denotes (world_of_fragment F (extension_words extensions.now))
+            (schema_in made.0) × (made.1.items ≡ warned)) result }
     {
         match Fragment::from_cedarschema_str(alloc, src, extensions) {
             Ok(declared) => with_schema(alloc, declared, extensions),
@@ -107,11 +117,14 @@ impl FromCedarSchema for ValidatorSchema {
     }
 
     fn parse(alloc: Global, src: &str) -> Out<ValidatorSchema, CedarSchemaError>
-        ensures denotes { IfOk result (λ schema. (warned : List Warning) × DenotesSchema src.now all_extensions (schema_in schema) warned) }
+        ensures denotes { IfOk result (λ schema. (warned : List Warning)
+            × DenotesSchema src.now all_extensions (schema_in schema) warned) }
         ensures named { IfOk result IsNamed }
         ensures refused { IfRefused result (TextCause src.now all_extensions) }
-        ensures accepts { (F : Declared) (warned : List Warning) → IsWellFormed src.now all_extensions F warned
-            → Accepts (λ schema. Denotes (world_of_fragment F all_extensions) (schema_in schema)) result }
+        ensures accepts { (F : Declared) (warned : List Warning)
+            → IsWellFormed src.now all_extensions F warned
+            → Accepts (λ schema. Denotes (world_of_fragment F all_extensions) (schema_in schema))
+            result }
     {
         let extensions = Extensions::all_available(alloc)?;
         match ValidatorSchema::from_cedarschema_str(alloc, src, &extensions) {

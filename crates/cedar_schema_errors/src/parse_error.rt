@@ -40,9 +40,11 @@ fn lines_of(alloc: Global, first: &str, second: &str) -> Mem<String>
     Ok(format!(in alloc; "{first}\n{second}")?)
 }
 
-/// What to say of a source that looks like JSON, on a line below the other help where there is some.
+/// What to say of a source that looks like JSON, on a line below the other help where there is
+/// some.
 fn with_json_hint(alloc: Global, help: Option<String>) -> Mem<String>
-    ensures { IfOk result (λ all. string_bytes all ≡ with_json_hint (option_map string_bytes help)) }
+    ensures { IfOk result (λ all. string_bytes all
+        ≡ with_json_hint (option_map string_bytes help)) }
 {
     match help {
         Some(help) => lines_of(alloc, help.as_str(), JSON_HINT),
