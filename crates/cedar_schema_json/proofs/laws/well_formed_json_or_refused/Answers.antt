@@ -1,0 +1,14 @@
+-- SPDX-License-Identifier: Apache-2.0
+use Rattle.cedar_json.specs.TextFaults.{IsFragmentText, advised_fault}
+use Rattle.cedar_json_laws.proofs.CleanDeclarations.{fragment_clean}
+use Rattle.cedar_json_laws.proofs.OnceDeclarations.{fragment_once}
+use Rattle.cedar_json_namespaces.specs.Namespaces.{IsFragment, fragment_fault}
+use Rattle.cedar_schema_json.proofs.OneShape.{text_clean, text_once}
+use Rattle.cedar_schema_json.proofs.Reading.{well_formed_or_refused}
+use Rattle.cedar_schema_json.proofs.laws.well_formed_json_or_refused.Goals as goal
+
+pub returns-clause-value : goal.returns-clause-value
+returns-clause-value c = λ d extensions. well_formed_or_refused (IsFragment d) (fragment_fault d) extensions (fragment_once d) (fragment_clean d)
+
+pub returns-clause-text : goal.returns-clause-text
+returns-clause-text c = λ text extensions. well_formed_or_refused (IsFragmentText text) (advised_fault text) extensions (text_once text) (text_clean text)
