@@ -14,7 +14,7 @@ use Rattle.std.specs.declared.result.Result.TheVariants.{Ok, Err}
 use Rattle.cedar_data.specs.Maps.{IsSortedMap, map_values}
 use Rattle.cedar_data.specs.declared.memory.Failure.{Failure}
 use Rattle.cedar_written.specs.Answers.{Answers, all_items, all_values, and_then}
-use Rattle.cedar_written.proofs.Goes.{Answers-refused, Goes, Goes-end, Goes-next, Goes-refused, Goes-sorted, Goes-start}
+use Rattle.cedar_written.proofs.Goes.{Answers-refused, Goes, Goes-end, Goes-next, Goes-refused, Goes-sorted, Goes-start, GoesOn, GoesOn-end, GoesOn-next, GoesOn-refused, GoesOn-start}
 use Rattle.cedar_complete.specs.Completed.{through_set}
 
 keys_of-values : {K V W : Type 0} (f : V → W) (es : List (K × V)) → keys_of (map_values f es) ≡ keys_of es
@@ -107,10 +107,35 @@ module _ {A B F E : Type 0} where
   pub MakesSet-end : {content : F → B} {cmp : B → B → Ordering} {f : A → Result B E} {whole left : List A} {made : List F} → MakesSet content cmp f whole left made → left ≡ [] → through_set cmp f whole ≡ Ok (map content made)
   MakesSet-end {content} {cmp} {f} {made = made} sofar none = sym sofar.is ∙ ap (set_on cmp f (map content made)) none
 
--- a value of a part is handed on
-and_then-ok : {X Y E : Type 0} (f : X → Result Y E) {r : Result X E} {x : X} → r ≡ Ok x → and_then r f ≡ f x
-and_then-ok f is = ap (λ r. and_then r f) is
+-- a loop over a list that has `left` before it has made these items
+pub record Lists {A F C E : Type 0} (content : F → C) (f : A → Result C E) (whole left : List A) (made : List F) : Type 0 where
+  pub goes : GoesOn f whole left (map content made)
+
+module _ {A F C E : Type 0} where
+  -- before the first
+  pub Lists-start : (content : F → C) (f : A → Result C E) (whole left : List A) (made : List F) → left ≡ whole → made ≡ [] → Lists content f whole left made
+  Lists-start content f whole left made all none = record { goes = GoesOn-start f whole left (map content made) all (ap (map content) none) }
+
+  -- one more
+  pub Lists-next : {content : F → C} {f : A → Result C E} {whole left rest : List A} {made more : List F} {next : A} (new : F) → Lists content f whole left made → left ≡ next ∷ rest → f next ≡ Ok (content new) → more ≡ made ++ new ∷ [] → Lists content f whole rest more
+  Lists-next {content} {made = made} new sofar first gives pushed = record {
+    goes = GoesOn-next sofar.goes first gives (ap (map content) pushed ∙ map-append content made (new ∷ []));
+  }
+
+  -- a refusal
+  pub Lists-refused : {content : F → C} {f : A → Result C E} {whole left rest : List A} {made : List F} {next : A} (x : Failure E) → Lists content f whole left made → left ≡ next ∷ rest → Answers (Err x) (f next) → Answers (Err x) (all_items (map f whole))
+  Lists-refused x sofar first refused = GoesOn-refused x sofar.goes first refused
+
+  -- after the last
+  pub Lists-end : {content : F → C} {f : A → Result C E} {whole left : List A} {made : List F} → Lists content f whole left made → left ≡ [] → all_items (map f whole) ≡ Ok (map content made)
+  Lists-end sofar none = GoesOn-end sofar.goes none
+
+pub map_values-id : {K V : Type 0} (es : List (K × V)) → map_values {K = K} {V = V} {W = V} (λ v. v) es ≡ es
+map_values-id [] = refl
+map_values-id (e ∷ es) = ap (λ es. e ∷ es) (map_values-id es)
 
 pub ruleset contents = (Contents-start, Contents-next, Contents-sorted, Contents-refused, Contents-end, MakesSet-start, MakesSet-next, MakesSet-refused, MakesSet-end, Answers-refused)
 
-pub ruleset sets = (map-id, Answers-refused)
+pub ruleset listed = (Lists-start, Lists-next, Lists-refused, Lists-end)
+
+pub ruleset parts = (map-id, map_values-id, Answers-refused)

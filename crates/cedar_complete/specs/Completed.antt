@@ -13,6 +13,7 @@ use Rattle.cedar_names.specs.Names.{internal_cmp, internal_of, name_of}
 use Rattle.cedar_names.specs.Order.{word_cmp}
 use Rattle.cedar_names.specs.declared.internal_name.InternalName.{InternalName}
 use Rattle.cedar_names.specs.declared.name.EntityType.{EntityType}
+use Rattle.cedar_definitions.specs.Structures.{definitions_of}
 use Rattle.cedar_definitions.specs.declared.structures.ActionFragment.{ActionFragment}
 use Rattle.cedar_definitions.specs.declared.structures.ActionsDef.{ActionsDef}
 use Rattle.cedar_definitions.specs.declared.structures.CommonTypeDefs.{CommonTypeDefs}
@@ -21,6 +22,7 @@ use Rattle.cedar_definitions.specs.declared.structures.EntityTypeFragment.TheVar
 use Rattle.cedar_definitions.specs.declared.structures.EntityTypesDef.{EntityTypesDef}
 use Rattle.cedar_definitions.specs.declared.structures.ValidatorApplySpec.{ValidatorApplySpec}
 use Rattle.cedar_definitions.specs.declared.structures.ValidatorNamespaceDef.{ValidatorNamespaceDef}
+use Rattle.cedar_definitions.specs.declared.structures.ValidatorSchemaFragment.{ValidatorSchemaFragment}
 use Rattle.cedar_declared.specs.Names.{Names}
 use Rattle.cedar_declared.specs.Targets.{resolving}
 use Rattle.cedar_fragment.specs.ActionUids.{over_conditional, over_internal, type_in}
@@ -52,6 +54,10 @@ parent_cmp a b = ordering_then (option_cmp internal_cmp (type_in a) (type_in b))
 -- what f gives of each of a set, as a set in this order
 abbrev pub through_set : {A B E : Type 0} → (B → B → Ordering) → (A → Result B E) → List A → Result (List B) E
 through_set cmp f xs = and_then (all_items (map f xs)) (λ ys. Ok (set_of cmp ys))
+
+-- all three, or the first refusal
+abbrev pub all_three : {A B C E : Type 0} → Result A E → Result B E → Result C E → Result (A × B × C) E
+all_three a b c = and_then a (λ a. and_then b (λ b. and_then c (λ c. Ok (a, b, c))))
 
 -- the name of an entity type
 abbrev pub internal_in : EntityType → InternalName
@@ -107,6 +113,10 @@ definition_content d = record {
   actions = actions_content d.actions;
 }
 
+-- those of a fragment, so
+abbrev pub fragment_content : ValidatorSchemaFragment InternalName EntityType over_internal → List FullDefinition
+fragment_content f = map definition_content (definitions_of f)
+
 module _ (names : Names) where
   -- what a parent, principal or resource means, which must not have `__cedar`
   abbrev pub membership : ConditionalName → Result InternalName SchemaError
@@ -127,10 +137,8 @@ module _ (names : Names) where
   -- an entity type
   abbrev pub completed_entity : EntityTypeFragment ConditionalName → Result (EntityTypeFragment InternalName) SchemaError
   completed_entity (Standard shape parents tags) =
-      and_then (memberships parents) (λ parents.
-      and_then (through_shape (resolving names) shape) (λ shape.
-      and_then (in_option (option_map (through_type (resolving names)) tags)) (λ tags.
-      Ok (Standard shape parents tags))))
+      and_then (all_three (memberships parents) (through_shape (resolving names) shape) (in_option (option_map (through_type (resolving names)) tags)))
+      (λ parts. Ok (Standard parts.1 parts.0 parts.2))
   completed_entity (Enum choices) = Ok (Enum choices)
 
   -- entity types, with their places
@@ -147,17 +155,15 @@ module _ (names : Names) where
   -- an action
   abbrev pub completed_action : ActionFragment ConditionalName ConditionalName over_conditional → Result FullAction SchemaError
   completed_action a =
-      and_then (through_set parent_cmp completed_parent a.parents) (λ parents.
-      and_then (completed_apply a.applies_to) (λ applies_to.
-      and_then (through_type (resolving names) a.context) (λ context.
+      and_then (all_three (through_set parent_cmp completed_parent a.parents) (completed_apply a.applies_to) (through_type (resolving names) a.context)) (λ parts.
       Ok (record {
-        context = context;
-        applies_to = applies_to;
-        parents = parents;
+        context = parts.2;
+        applies_to = parts.1;
+        parents = parts.0;
         attribute_types = a.attribute_types;
         attributes = a.attributes;
         loc = a.loc;
-      }))))
+      }))
 
   -- actions
   abbrev pub completed_actions : ActionsDef ConditionalName ConditionalName over_conditional → Result FullActions SchemaError
@@ -166,10 +172,12 @@ module _ (names : Names) where
   -- the definitions of a namespace
   abbrev pub completed_definition : ValidatorNamespaceDef ConditionalName ConditionalName over_conditional → Result FullDefinition SchemaError
   completed_definition d =
-      and_then (completed_commons d.common_types) (λ common_types.
-      and_then (completed_entities d.entity_types) (λ entity_types.
-      and_then (completed_actions d.actions) (λ actions.
-      Ok (record { namespace = d.namespace; common_types = common_types; entity_types = entity_types; actions = actions }))))
+      and_then (all_three (completed_commons d.common_types) (completed_entities d.entity_types) (completed_actions d.actions)) (λ parts.
+      Ok (record { namespace = d.namespace; common_types = parts.0; entity_types = parts.1; actions = parts.2 }))
+
+  -- the definitions of a fragment
+  abbrev pub completed_fragment : ValidatorSchemaFragment ConditionalName ConditionalName over_conditional → Result (List FullDefinition) SchemaError
+  completed_fragment f = all_items (map completed_definition (definitions_of f))
 
 -- the refusal, or else what is made
 abbrev pub unless_refused : {T : Type 0} → Option SchemaError → Result T SchemaError → Result T SchemaError

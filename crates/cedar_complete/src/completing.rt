@@ -1,36 +1,29 @@
 // SPDX-License-Identifier: Apache-2.0
-//! Definitions with the full name that each reference means in its place.
-ghost use Rattle.std.specs.Prelude.{◌≡◌, List, map};
+//! Parts of definitions with the full name that each reference means in its place.
+ghost use Rattle.std.specs.Prelude.{◌≡◌, List, Option, map};
+ghost use Rattle.std.specs.Option.{option_map};
 ghost use Rattle.std.specs.Result.{result_map_both};
 ghost use Rattle.std.specs.declared.result.Result.{Result};
-ghost use Rattle.std.specs.declared.result.Result.TheVariants.{Ok};
 ghost use Rattle.cedar_data.specs.Maps.{map_values};
 ghost use Rattle.cedar_declared.specs.Held.{names_of};
 ghost use Rattle.cedar_declared.specs.Names.{Names};
 ghost use Rattle.cedar_declared.specs.Targets.{resolving};
-ghost use Rattle.cedar_definitions.specs.Structures.{definitions_of};
-ghost use Rattle.cedar_fragment.specs.ActionUids.{over_internal};
-ghost use Rattle.cedar_complete.specs.Completed.{FullAction, FullActions, FullApply, FullCommons, FullDefinition, FullEntities, FullEntity, action_content, actions_content, apply_content, completed_action, completed_actions, completed_apply, completed_commons, completed_definition, completed_entities, completed_entity, completed_parent, definition_content, parent_cmp, through_set};
-ghost use Rattle.cedar_written.specs.Answers.{Answers, all_items, all_values, and_then};
+ghost use Rattle.cedar_fragment.specs.Definitions.{through_shape};
+ghost use Rattle.cedar_names.specs.declared.internal_name.InternalName.{InternalName};
+ghost use Rattle.cedar_complete.specs.Completed.{all_three, through_set};
+ghost use Rattle.cedar_written.specs.Answers.{Answers, all_items, all_values, in_option};
 ghost use Rattle.cedar_written.specs.Through.{through_type};
 
-use crate::targets::target_set;
-use cedar_data::{Map, Out, Set};
+use crate::targets::{Member, target_set};
+use cedar_data::{Items, Map, Out, Set};
 use cedar_declared::{AllDefs, Resolving};
-use cedar_definitions::{
-    ActionFragment, ActionsDef, CommonTypeDefs, EntityTypeFragment, EntityTypesDef,
-    ValidatorApplySpec, ValidatorNamespaceDef, ValidatorSchemaFragment,
-};
-use cedar_fragment::{ActionEntityUID, ConditionalName, SchemaType, Walk};
-use cedar_missing::HasReferences;
-use cedar_names::{EntityType, InternalName};
+use cedar_fragment::{AttributesOrContext, ConditionalName, SchemaType, Walk};
+use cedar_names::InternalName;
 use cedar_schema_error::SchemaError;
-use cedar_text::Loc;
-use cedar_types::{Attributes, ValueMap};
 use std::alloc::Global;
 
 /// What is made over full names.
-pub trait Completes: HasReferences + Sized {
+pub trait Completes: Sized {
     ghost use Rattle.cedar_schema_error.specs.declared.schema_error.SchemaError.{SchemaError};
 
     /// The same over full names.
@@ -70,290 +63,124 @@ impl<K: Ord + Drop, V: Completes + Drop> Completes for Map<K, V> {
     }
 }
 
-impl Completes for CommonTypeDefs<ConditionalName> {
-    type Full = CommonTypeDefs<InternalName>;
+impl<T: Completes + Drop> Completes for Items<T> {
+    type Full = Items<T::Full>;
 
-    ghost Content = { FullCommons };
+    ghost Content = { List T.Completes.Content };
 
-    ghost content = { λ d. d };
+    ghost content = { map T.Completes.content };
 
-    ghost completed = { completed_commons };
+    ghost completed = { λ names items. all_items (map (T.Completes.completed names) items) };
 
-    #[tactic(auto, using(cedar_written::proofs::Goes::goes))]
-    fn complete(
-        self,
-        alloc: Global,
-        all_defs: &AllDefs,
-    ) -> Out<CommonTypeDefs<InternalName>, SchemaError> {
-        let CommonTypeDefs { defs } = self;
-        let defs = defs.walk(alloc, &Resolving { all_defs })?;
-        Ok(CommonTypeDefs { defs })
-    }
-}
-
-impl Completes for EntityTypeFragment<ConditionalName> {
-    type Full = EntityTypeFragment<InternalName>;
-
-    ghost Content = { FullEntity };
-
-    ghost content = { λ e. e };
-
-    ghost completed = { completed_entity };
-
-    #[tactic(auto, using(crate::proofs::Contents::sets))]
-    fn complete(
-        self,
-        alloc: Global,
-        all_defs: &AllDefs,
-    ) -> Out<EntityTypeFragment<InternalName>, SchemaError> {
-        match self {
-            EntityTypeFragment::Standard {
-                attributes,
-                parents,
-                tags,
-            } => {
-                let parents = target_set(alloc, all_defs, &parents)?;
-                let attributes = attributes.walk(alloc, &Resolving { all_defs })?;
-                let tags = tags.walk(alloc, &Resolving { all_defs })?;
-                Ok(EntityTypeFragment::Standard {
-                    attributes,
-                    parents,
-                    tags,
-                })
-            }
-            EntityTypeFragment::Enum(choices) => Ok(EntityTypeFragment::Enum(choices)),
+    #[tactic(auto, using(crate::proofs::Contents::listed))]
+    fn complete(self, alloc: Global, all_defs: &AllDefs) -> Out<Items<T::Full>, SchemaError> {
+        let mut made = Items::new(alloc);
+        for item in self.into_vec() {
+            let item = item.complete(alloc, all_defs)?;
+            made.push(item)?;
         }
+        Ok(made)
     }
 }
 
-impl Completes for EntityTypesDef<ConditionalName> {
-    type Full = EntityTypesDef<InternalName>;
+impl Completes for SchemaType<ConditionalName> {
+    ghost use Rattle.cedar_written.specs.declared.ty.SchemaType.{SchemaType};
 
-    ghost Content = { FullEntities };
+    type Full = SchemaType<InternalName>;
 
-    ghost content = { λ d. d };
+    ghost Content = { SchemaType InternalName };
 
-    ghost completed = { completed_entities };
+    ghost content = { λ t. t };
 
-    #[tactic(auto, using(crate::proofs::Contents::contents))]
+    ghost completed = { λ names. through_type (resolving names) };
+
     fn complete(
         self,
         alloc: Global,
         all_defs: &AllDefs,
-    ) -> Out<EntityTypesDef<InternalName>, SchemaError> {
-        let EntityTypesDef { defs, locs } = self;
-        let defs = defs.complete(alloc, all_defs)?;
-        Ok(EntityTypesDef { defs, locs })
+    ) -> Out<SchemaType<InternalName>, SchemaError> {
+        self.walk(alloc, &Resolving { all_defs })
     }
 }
 
-/// What principals and resources mean.
-fn complete_apply(
+impl Completes for Option<SchemaType<ConditionalName>> {
+    ghost use Rattle.cedar_written.specs.declared.ty.SchemaType.{SchemaType};
+
+    type Full = Option<SchemaType<InternalName>>;
+
+    ghost Content = { Option (SchemaType InternalName) };
+
+    ghost content = { λ t. t };
+
+    ghost completed = { λ names t. in_option (option_map (through_type (resolving names)) t) };
+
+    fn complete(
+        self,
+        alloc: Global,
+        all_defs: &AllDefs,
+    ) -> Out<Option<SchemaType<InternalName>>, SchemaError> {
+        self.walk(alloc, &Resolving { all_defs })
+    }
+}
+
+impl Completes for AttributesOrContext<ConditionalName> {
+    ghost use Rattle.cedar_fragment.specs.declared.attributes_or_context.AttributesOrContext.{AttributesOrContext};
+
+    type Full = AttributesOrContext<InternalName>;
+
+    ghost Content = { AttributesOrContext InternalName };
+
+    ghost content = { λ t. t };
+
+    ghost completed = { λ names. through_shape (resolving names) };
+
+    fn complete(
+        self,
+        alloc: Global,
+        all_defs: &AllDefs,
+    ) -> Out<AttributesOrContext<InternalName>, SchemaError> {
+        self.walk(alloc, &Resolving { all_defs })
+    }
+}
+
+/// What the references of a set mean, and two parts over full names.
+pub(crate) fn complete_around<
+    K: Ord + Member<F> + Drop,
+    F: Ord + Drop,
+    A: Completes + Drop,
+    B: Completes + Drop,
+>(
     alloc: Global,
     all_defs: &AllDefs,
-    applies_to: &ValidatorApplySpec<ConditionalName>,
-) -> Out<ValidatorApplySpec<EntityType>, SchemaError>
-    ensures { Answers (result_map_both apply_content (λ e. e) result) (completed_apply (names_of all_defs.now) applies_to.now) }
+    keys: Set<K>,
+    first: A,
+    second: B,
+) -> Out<(Set<F>, A::Full, B::Full), SchemaError>
+    requires in_order { (a b : F) → F.cmp a b ≡ K.Member.order (K.Member.content a) (K.Member.content b) }
+    ensures { Answers (result_map_both (λ p. (map K.Member.content p.0, A.Completes.content p.1, B.Completes.content p.2)) (λ e. e) result)
+        (all_three (through_set K.Member.order (K.Member.meant (names_of all_defs.now)) keys)
+            (A.Completes.completed (names_of all_defs.now) first) (B.Completes.completed (names_of all_defs.now) second)) }
 {
-    let principal_apply_spec = target_set(alloc, all_defs, &applies_to.principal_apply_spec)?;
-    let resource_apply_spec = target_set(alloc, all_defs, &applies_to.resource_apply_spec)?;
-    Ok(ValidatorApplySpec {
-        principal_apply_spec,
-        resource_apply_spec,
-    })
+    let targets = target_set(alloc, all_defs, &keys)?;
+    let first = first.complete(alloc, all_defs)?;
+    let second = second.complete(alloc, all_defs)?;
+    Ok((targets, first, second))
 }
 
-impl Completes for ValidatorApplySpec<ConditionalName> {
-    type Full = ValidatorApplySpec<EntityType>;
-
-    ghost Content = { FullApply };
-
-    ghost content = { apply_content };
-
-    ghost completed = { completed_apply };
-
-    fn complete(
-        self,
-        alloc: Global,
-        all_defs: &AllDefs,
-    ) -> Out<ValidatorApplySpec<EntityType>, SchemaError> {
-        complete_apply(alloc, all_defs, &self)
-    }
-}
-
-/// An action but for its context.
-#[derive(Drop)]
-struct AroundContext {
-    applies_to: ValidatorApplySpec<EntityType>,
-    parents: Set<ActionEntityUID<InternalName>>,
-    attribute_types: Attributes,
-    attributes: ValueMap,
-    loc: Option<Loc>,
-}
-
-impl AroundContext {
-    /// The action with this context.
-    fn with_context(
-        self,
-        context: SchemaType<InternalName>,
-    ) -> ActionFragment<InternalName, EntityType>
-        ensures { result ≡ record { context = context; applies_to = self.applies_to; parents = self.parents; attribute_types = self.attribute_types; attributes = self.attributes; loc = self.loc } }
-    {
-        let AroundContext {
-            applies_to,
-            parents,
-            attribute_types,
-            attributes,
-            loc,
-        } = self;
-        ActionFragment {
-            context,
-            applies_to,
-            parents,
-            attribute_types,
-            attributes,
-            loc,
-        }
-    }
-}
-
-/// The context of an action, and the action around it with these in their places.
-fn take_context(
-    action: ActionFragment<ConditionalName, ConditionalName>,
-    applies_to: ValidatorApplySpec<EntityType>,
-    parents: Set<ActionEntityUID<InternalName>>,
-) -> (SchemaType<ConditionalName>, AroundContext)
-    ensures context { result.0 ≡ action.context }
-    ensures around { result.1 ≡ record { applies_to = applies_to; parents = parents; attribute_types = action.attribute_types; attributes = action.attributes; loc = action.loc } }
-{
-    let ActionFragment {
-        context,
-        applies_to: _,
-        parents: _,
-        attribute_types,
-        attributes,
-        loc,
-    } = action;
-    let around = AroundContext {
-        applies_to,
-        parents,
-        attribute_types,
-        attributes,
-        loc,
-    };
-    (context, around)
-}
-
-/// What an action applies to, with what its principals and resources mean.
-fn complete_applies_to(
+/// Three parts over full names.
+pub(crate) fn complete_three<A: Completes + Drop, B: Completes + Drop, C: Completes + Drop>(
     alloc: Global,
     all_defs: &AllDefs,
-    action: &ActionFragment<ConditionalName, ConditionalName>,
-) -> Out<ValidatorApplySpec<EntityType>, SchemaError>
-    ensures { Answers (result_map_both apply_content (λ e. e) result) (completed_apply (names_of all_defs.now) action.now.applies_to) }
+    first: A,
+    second: B,
+    third: C,
+) -> Out<(A::Full, B::Full, C::Full), SchemaError>
+    ensures { Answers (result_map_both (λ p. (A.Completes.content p.0, B.Completes.content p.1, C.Completes.content p.2)) (λ e. e) result)
+        (all_three (A.Completes.completed (names_of all_defs.now) first) (B.Completes.completed (names_of all_defs.now) second)
+            (C.Completes.completed (names_of all_defs.now) third)) }
 {
-    complete_apply(alloc, all_defs, &action.applies_to)
-}
-
-/// The parents of an action with what their types mean.
-#[tactic(auto, using(crate::proofs::Contents::sets))]
-fn complete_parents(
-    alloc: Global,
-    all_defs: &AllDefs,
-    action: &ActionFragment<ConditionalName, ConditionalName>,
-) -> Out<Set<ActionEntityUID<InternalName>>, SchemaError>
-    ensures { Answers result (through_set parent_cmp (completed_parent (names_of all_defs.now)) action.now.parents) }
-{
-    let parents = target_set(alloc, all_defs, &action.parents)?;
-    Ok(parents)
-}
-
-/// The action around a context, with what the references of the context mean.
-fn complete_context(
-    alloc: Global,
-    all_defs: &AllDefs,
-    context: SchemaType<ConditionalName>,
-    around: AroundContext,
-) -> Out<ActionFragment<InternalName, EntityType>, SchemaError>
-    ensures { Answers result (and_then (through_type (resolving (names_of all_defs.now)) context) (λ context. Ok (record { context = context; applies_to = around.applies_to; parents = around.parents; attribute_types = around.attribute_types; attributes = around.attributes; loc = around.loc }))) }
-{
-    let context = context.walk(alloc, &Resolving { all_defs })?;
-    Ok(around.with_context(context))
-}
-
-impl Completes for ActionFragment<ConditionalName, ConditionalName> {
-    type Full = ActionFragment<InternalName, EntityType>;
-
-    ghost Content = { FullAction };
-
-    ghost content = { action_content };
-
-    ghost completed = { completed_action };
-
-    #[tactic(auto, using(crate::proofs::Contents::sets))]
-    fn complete(
-        self,
-        alloc: Global,
-        all_defs: &AllDefs,
-    ) -> Out<ActionFragment<InternalName, EntityType>, SchemaError> {
-        let parents = complete_parents(alloc, all_defs, &self)?;
-        let applies_to = complete_applies_to(alloc, all_defs, &self)?;
-        let (context, around) = take_context(self, applies_to, parents);
-        let action = complete_context(alloc, all_defs, context, around)?;
-        Ok(action)
-    }
-}
-
-impl Completes for ActionsDef<ConditionalName, ConditionalName> {
-    type Full = ActionsDef<InternalName, EntityType>;
-
-    ghost Content = { FullActions };
-
-    ghost content = { actions_content };
-
-    ghost completed = { completed_actions };
-
-    #[tactic(auto, using(crate::proofs::Contents::contents))]
-    fn complete(
-        self,
-        alloc: Global,
-        all_defs: &AllDefs,
-    ) -> Out<ActionsDef<InternalName, EntityType>, SchemaError> {
-        let ActionsDef { actions } = self;
-        let actions = actions.complete(alloc, all_defs)?;
-        Ok(ActionsDef { actions })
-    }
-}
-
-impl Completes for ValidatorNamespaceDef<ConditionalName, ConditionalName> {
-    type Full = ValidatorNamespaceDef<InternalName, EntityType>;
-
-    ghost Content = { FullDefinition };
-
-    ghost content = { definition_content };
-
-    ghost completed = { completed_definition };
-
-    #[tactic(auto, using(crate::proofs::Contents::contents))]
-    fn complete(
-        self,
-        alloc: Global,
-        all_defs: &AllDefs,
-    ) -> Out<ValidatorNamespaceDef<InternalName, EntityType>, SchemaError> {
-        let ValidatorNamespaceDef {
-            namespace,
-            common_types,
-            entity_types,
-            actions,
-        } = self;
-        let common_types = common_types.complete(alloc, all_defs)?;
-        let entity_types = entity_types.complete(alloc, all_defs)?;
-        let actions = actions.complete(alloc, all_defs)?;
-        Ok(ValidatorNamespaceDef {
-            namespace,
-            common_types,
-            entity_types,
-            actions,
-        })
-    }
+    let first = first.complete(alloc, all_defs)?;
+    let second = second.complete(alloc, all_defs)?;
+    let third = third.complete(alloc, all_defs)?;
+    Ok((first, second, third))
 }

@@ -3,8 +3,9 @@
 #![tactic(auto)]
 
 mod completing;
+mod definitions;
 mod qualifying;
 mod targets;
 
 pub use completing::Completes;
-pub use qualifying::FullyQualifyDefinition;
+pub use qualifying::FullyQualifyDefinitions;
