@@ -187,3 +187,7 @@ unless_refused None made = made
 -- what comes of definitions that miss so much: their refusal, or else what is made of them
 abbrev pub answer_of : {T : Type 0} → Missing → Result T SchemaError → Result T SchemaError
 answer_of missing made = unless_refused (refusal_of missing) made
+
+-- something is made, and nothing refused
+abbrev pub IsMade : {T : Type 0} → Result T SchemaError → Type 0
+IsMade {T} r = (made : T) × (r ≡ Ok made)
