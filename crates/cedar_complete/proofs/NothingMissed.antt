@@ -1,7 +1,7 @@
 -- SPDX-License-Identifier: Apache-2.0
 -- Definitions whose references miss nothing are made over full names.
 use Rattle.std.proofs.Common.{◌≡◌, ◌++◌, Bool, true, false, List, [], ◌∷◌, map, Option, Some, None, cond, is_none, option_map, option_to_list, refl, ap, ◌∙◌}
-use Rattle.std.specs.List.{flat_map}
+use Rattle.std.specs.List.{find, flat_map}
 use Rattle.std.specs.Option.{option_or}
 use Rattle.std.specs.Result.{result_err}
 use Rattle.std.specs.declared.cmp.Ordering.{Ordering}
@@ -24,10 +24,12 @@ use Rattle.cedar_written.specs.declared.ty.SchemaType.TheOpen as layer
 use Rattle.cedar_written.specs.declared.ty.SchemaType.TheOpen.{SchemaType-F, TypeVariant-F}
 use Rattle.cedar_written.specs.declared.ty.TypeOfAttribute.{TypeOfAttribute}
 use Rattle.cedar_written.specs.declared.ty.TypeVariant.{TypeVariant}
-use Rattle.cedar_fragment.specs.ActionUids.{over_conditional, over_internal, uid_of}
+use Rattle.cedar_fragment.specs.ActionUids.{over_conditional, over_internal, type_in, uid_of}
 use Rattle.cedar_fragment.specs.Definitions.{through_shape}
 use Rattle.cedar_fragment.specs.declared.attributes_or_context.AttributesOrContext.{AttributesOrContext}
 use Rattle.cedar_schema_error.specs.declared.schema_error.SchemaError.{SchemaError}
+use Rattle.cedar_schema_error.specs.declared.schema_error.SchemaError.TheVariants.{ReservedName, TypeNotDefined}
+use Rattle.cedar_written.specs.Possibilities.{leading}
 use Rattle.cedar_definitions.specs.Structures.{definitions_of}
 use Rattle.cedar_definitions.specs.declared.structures.ActionFragment.{ActionFragment}
 use Rattle.cedar_definitions.specs.declared.structures.ActionsDef.{ActionsDef}
@@ -39,10 +41,10 @@ use Rattle.cedar_definitions.specs.declared.structures.ValidatorApplySpec.{Valid
 use Rattle.cedar_definitions.specs.declared.structures.ValidatorNamespaceDef.{ValidatorNamespaceDef}
 use Rattle.cedar_definitions.specs.declared.structures.ValidatorSchemaFragment.{ValidatorSchemaFragment}
 use Rattle.cedar_declared.specs.Names.{Names}
-use Rattle.cedar_declared.specs.Targets.{found, or_refused, resolving}
-use Rattle.cedar_missing.specs.Undeclared.{Parent, first_undefined, found_parent, missing_by, missing_in_action, missing_in_apply, missing_in_common, missing_in_definition, missing_in_each, missing_in_entity, missing_in_name, missing_in_parent, missing_in_type, missing_in_values, name_at, no_action, no_type, or_else, refusal_by, refusal_of}
+use Rattle.cedar_declared.specs.Targets.{found, or_refused, parent_type, resolving, undeclared_action}
+use Rattle.cedar_missing.specs.Undeclared.{Parent, first_undefined, found_parent, is_undefined, missing_by, missing_in_action, missing_in_apply, missing_in_common, missing_in_definition, missing_in_each, missing_in_entity, missing_in_name, missing_in_parent, missing_in_type, missing_in_values, name_at, no_action, no_type, or_else, refusal_by, refusal_of}
 use Rattle.cedar_missing.specs.declared.missing.Missing.{Missing}
-use Rattle.cedar_complete.specs.Completed.{IsMade, all_three, completed_action, completed_actions, completed_apply, completed_commons, completed_definition, completed_entities, completed_entity, completed_fragment, completed_parent, membership, memberships, parent_cmp, through_set, unreserved}
+use Rattle.cedar_complete.specs.Completed.{FullParent, IsMade, all_three, completed_action, completed_actions, completed_apply, completed_commons, completed_definition, completed_entities, completed_entity, completed_fragment, completed_parent, membership, memberships, parent_cmp, through_set, unreserved}
 
 -- all three lists are empty
 record MissesNothing (m : Missing) : Type 0 where
@@ -159,13 +161,16 @@ module _ (names : Names) where
   by_names : (t : SchemaType ConditionalName) → through_type (resolving names) t ≡ through_type by_name t
   by_names t = λ i. fold-SchemaType ConditionalName OfType OfVariant OfRecord OfAttribute (λ l. same_type_step l i) (λ l. same_variant_step l i) (record_step by_name) (attribute_step by_name) t
 
+  first_found : (n : ConditionalName) (others : List ConditionalName) (e : SchemaError) (o : Option InternalName) → cond (is_none o) (Some n) (find (is_undefined names) others) ≡ None
+      → (find (is_undefined names) others ≡ None) × (result_err (or_refused e o) ≡ None)
+  first_found n others e None is = absurd (some_none n is)
+  first_found n others e (Some m) is = (is, refl)
+
   not_refused : (rs : Refs ConditionalName) → first_undefined names rs ≡ None → first_refusal by_name rs ≡ None
   not_refused [] is = refl
-  not_refused (r ∷ rs) is = by (found names (name_at r)) is
-    where
-      by : (o : Option InternalName) → cond (is_none o) (Some (name_at r)) (first_undefined names rs) ≡ None → {e : SchemaError} → option_or (result_err (or_refused e o)) (first_refusal by_name rs) ≡ None
-      by None is = absurd (some_none _ is)
-      by (Some n) is = not_refused rs is
+  not_refused (r ∷ rs) is =
+      let both : (first_undefined names rs ≡ None) × (result_err (by_name r) ≡ None) = first_found (name_at r) (map name_at rs) _ (found names (name_at r)) is in
+      (λ i. option_or (both.1 i) (first_refusal by_name rs)) ∙ not_refused rs both.0
 
   -- a type
   type_made : (t : SchemaType ConditionalName) → missing_in_type names t ≡ [] → IsMade (through_type (resolving names) t)
@@ -185,11 +190,14 @@ module _ (names : Names) where
   name_made : (n : ConditionalName) → MissesNothing (missing_in_name names n) → IsMade (membership names n)
   name_made n none = by (found names n) none
     where
-      free : (m : InternalName) (b : Bool) → cond b (m ∷ []) [] ≡ [] → {e : SchemaError} → IsMade (cond b (Err e) (Ok m))
+      e : SchemaError
+      e = TypeNotDefined (record { undefined_types = leading n [] })
+
+      free : (m : InternalName) (b : Bool) → cond b (m ∷ []) [] ≡ [] → IsMade {T = InternalName} (cond b (Err (ReservedName (record { name = m }))) (Ok m))
       free m true is = absurd (some_there m [] is)
       free m false is = (m, refl)
 
-      by : (o : Option InternalName) → MissesNothing (missing_by (no_type n) o) → {e : SchemaError} → IsMade (and_then (or_refused e o) unreserved)
+      by : (o : Option InternalName) → MissesNothing (missing_by (no_type n) o) → IsMade (and_then (or_refused e o) unreserved)
       by None none = absurd (some_there n [] none.types)
       by (Some m) none = free m (has_cedar (components m)) none.reserved
 
@@ -197,7 +205,10 @@ module _ (names : Names) where
   parent_made : (a : Parent) → MissesNothing (missing_in_parent names a) → IsMade (completed_parent names a)
   parent_made a none = by (found_parent names a) none
     where
-      by : (o : Option InternalName) → MissesNothing (missing_by (no_action a) o) → {e : SchemaError} → IsMade (and_then (or_refused e o) (λ ty. Ok (uid_of over_internal a.id ty)))
+      e : SchemaError
+      e = undeclared_action a.id (parent_type (type_in a))
+
+      by : (o : Option InternalName) → MissesNothing (missing_by (no_action a) o) → IsMade {T = FullParent} (and_then (or_refused e o) (λ ty. Ok (uid_of over_internal a.id ty)))
       by None none = absurd (some_there a [] none.actions)
       by (Some m) none = (uid_of over_internal a.id m, refl)
 

@@ -4,8 +4,10 @@
 
 mod completing;
 mod definitions;
+mod laws;
 mod qualifying;
 mod targets;
 
 pub use completing::Completes;
+pub use laws::{parts_that_miss_nothing_are_made, what_misses_nothing_is_made};
 pub use qualifying::FullyQualifyDefinitions;
