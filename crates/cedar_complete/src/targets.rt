@@ -3,6 +3,9 @@
 ghost use Rattle.std.specs.Prelude.{◌≡◌, map};
 ghost use Rattle.std.specs.Result.{result_map_both};
 ghost use Rattle.cedar_written.specs.Answers.{Answers};
+ghost use Rattle.cedar_written.specs.Reference.{named};
+ghost use Rattle.cedar_written.specs.declared.reference_type.ReferenceType.TheVariants as kind;
+ghost use Rattle.cedar_declared.specs.Targets.{resolving};
 ghost use Rattle.cedar_declared.specs.Held.{names_of};
 ghost use Rattle.cedar_complete.specs.Completed.{through_set};
 
@@ -37,6 +40,19 @@ pub(crate) trait Member<F> {
         ensures { Answers (result_map_both content (λ e. e) result) (meant (names_of all_defs.now) self.now) };
 }
 
+/// The full name that a reference to an entity type means.
+fn find_target(
+    alloc: Global,
+    all_defs: &AllDefs,
+    reference: &ConditionalName,
+) -> Out<InternalName, SchemaError>
+    ensures { Answers result (resolving (names_of all_defs.now) (named kind.Entity reference.now)) }
+{
+    let name = reference.dup(alloc)?;
+    let step = Resolving { all_defs };
+    step.go(alloc, ReferenceType::Entity, name)
+}
+
 /// A principal or a resource.
 impl Member<EntityType> for ConditionalName {
     ghost use Rattle.cedar_names.specs.Names.{internal_cmp};
@@ -52,9 +68,7 @@ impl Member<EntityType> for ConditionalName {
     ghost meant = { membership };
 
     fn target(&self, alloc: Global, all_defs: &AllDefs) -> Out<EntityType, SchemaError> {
-        let name = self.dup(alloc)?;
-        let step = Resolving { all_defs };
-        let target = step.go(alloc, ReferenceType::Entity, name)?;
+        let target = find_target(alloc, all_defs, self)?;
         match Name::from_internal(target) {
             Ok(name) => Ok(EntityType::from_name(name)),
             Err(error) => Err(Failure::Refused(SchemaError::ReservedName(error))),
@@ -77,9 +91,7 @@ impl Member<InternalName> for ConditionalName {
     ghost meant = { membership };
 
     fn target(&self, alloc: Global, all_defs: &AllDefs) -> Out<InternalName, SchemaError> {
-        let name = self.dup(alloc)?;
-        let step = Resolving { all_defs };
-        let target = step.go(alloc, ReferenceType::Entity, name)?;
+        let target = find_target(alloc, all_defs, self)?;
         if target.is_reserved() {
             let error = ReservedNameError { name: target };
             return Err(Failure::Refused(SchemaError::ReservedName(error)));
