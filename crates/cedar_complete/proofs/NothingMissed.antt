@@ -1,19 +1,19 @@
 -- SPDX-License-Identifier: Apache-2.0
 -- Definitions whose references miss nothing are made over full names.
-use Rattle.std.proofs.Common.{◌≡◌, ◌++◌, Bool, true, false, List, [], ◌∷◌, map, Option, Some, None, cond, is_none, option_map, option_to_list, refl, ap, ◌∙◌}
+use Rattle.std.proofs.Common.{◌≡◌, ◌++◌, Bool, true, false, List, [], ◌∷◌, map, Option, Some, None, cond, is_none, option_map, option_to_list, refl, sym, ap, ◌∙◌, unwrap_or}
 use Rattle.std.specs.List.{find, flat_map}
 use Rattle.std.specs.Option.{option_or}
-use Rattle.std.specs.Result.{result_err}
-use Rattle.std.specs.declared.cmp.Ordering.{Ordering}
+use Rattle.std.specs.Result.{result_err, result_map_both}
 use Rattle.std.specs.declared.result.Result.{Result}
 use Rattle.std.specs.declared.result.Result.TheVariants.{Ok, Err}
 use Rattle.cedar_data.specs.Maps.{map_values}
-use Rattle.cedar_data.specs.Sets.{set_of}
+use Rattle.cedar_data.specs.declared.memory.Failure.{Failure}
+use Rattle.cedar_data.specs.declared.memory.Failure.TheVariants.{Refused, NoMemory}
 use Rattle.cedar_names.specs.Components.{components, has_cedar}
 use Rattle.cedar_names.specs.declared.internal_name.InternalName.{InternalName}
 use Rattle.cedar_written.proofs.FirstRefusal.{type_refused}
-use Rattle.cedar_written.specs.Answers.{all_items, all_values, and_then, in_option}
-use Rattle.cedar_written.specs.Reference.{Reference, named, parent}
+use Rattle.cedar_written.specs.Answers.{Answers, IfRefused, all_items, all_values, and_then, in_option}
+use Rattle.cedar_written.specs.Reference.{Reference, named}
 use Rattle.cedar_written.specs.References.{Refs, first_refusal, references}
 use Rattle.cedar_written.specs.Through.{attribute_step, record_step, through_type, type_step, variant_step}
 use Rattle.cedar_written.specs.declared.conditional_name.ConditionalName.{ConditionalName}
@@ -44,7 +44,7 @@ use Rattle.cedar_declared.specs.Names.{Names}
 use Rattle.cedar_declared.specs.Targets.{found, or_refused, parent_type, resolving, undeclared_action}
 use Rattle.cedar_missing.specs.Undeclared.{Parent, first_undefined, found_parent, is_undefined, missing_by, missing_in_action, missing_in_apply, missing_in_common, missing_in_definition, missing_in_each, missing_in_entity, missing_in_name, missing_in_parent, missing_in_type, missing_in_values, name_at, no_action, no_type, or_else, refusal_by, refusal_of}
 use Rattle.cedar_missing.specs.declared.missing.Missing.{Missing}
-use Rattle.cedar_complete.specs.Completed.{FullParent, IsMade, all_three, completed_action, completed_actions, completed_apply, completed_commons, completed_definition, completed_entities, completed_entity, completed_fragment, completed_parent, membership, memberships, parent_cmp, through_set, unreserved}
+use Rattle.cedar_complete.specs.Completed.{FullParent, IsMade, all_three, answer_of, completed_action, completed_actions, completed_apply, completed_commons, completed_definition, completed_entities, completed_entity, completed_fragment, completed_parent, membership, memberships, parent_cmp, through_set, unless_refused, unreserved}
 
 -- all three lists are empty
 record MissesNothing (m : Missing) : Type 0 where
@@ -87,6 +87,13 @@ nothing m is = let all : (m.types ≡ []) × (m.actions ≡ []) × (m.reserved �
 made_where : {A : Type 0} (r : Result A SchemaError) → result_err r ≡ None → IsMade r
 made_where (Ok a) is = (a, refl)
 made_where (Err e) is = absurd (some_none e is)
+
+-- a refusal, as a result of a known type
+abbrev err : {E : Type 0} (A : Type 0) → E → Result A E
+err A e = Err e
+
+not_both : {A : Type 0} (a : A) (e : SchemaError) → Ok a ≡ err A e → ⊥
+not_both a e is = absurd (cc)
 
 -- what is made of a part
 made_with : {A B : Type 0} (r : Result A SchemaError) (g : A → B) → IsMade r → IsMade (and_then r (λ a. Ok (g a)))
@@ -239,8 +246,7 @@ module _ (names : Names) where
       let each_type : ((missing_in_each (missing_in_name names) a.principal_apply_spec).types ≡ []) × ((missing_in_each (missing_in_name names) a.resource_apply_spec).types ≡ []) = both_empty _ _ types in
       let each_reserved : ((missing_in_each (missing_in_name names) a.principal_apply_spec).reserved ≡ []) × ((missing_in_each (missing_in_name names) a.resource_apply_spec).reserved ≡ []) = both_empty _ _ reserved in
       let principals : IsMade (memberships names a.principal_apply_spec) = names_made a.principal_apply_spec each_type.0 each_reserved.0 in
-      let resources : IsMade (memberships names a.resource_apply_spec) = names_made a.resource_apply_spec each_type.1 each_reserved.1 in
-      (
+      let resources : IsMade (memberships names a.resource_apply_spec) = names_made a.resource_apply_spec each_type.1 each_reserved.1 in (
         record { principal_apply_spec = principals.0; resource_apply_spec = resources.0 },
         (λ i. and_then (principals.1 i) (λ ps. and_then (resources.1 i) (λ rs. Ok (record { principal_apply_spec = ps; resource_apply_spec = rs })))),
       )
@@ -310,6 +316,22 @@ module _ (names : Names) where
   pub whole_fragment : (f : ValidatorSchemaFragment ConditionalName ConditionalName over_conditional) → refusal_of (missing_in_each (missing_in_definition names) (definitions_of f)) ≡ None → IsMade (completed_fragment names f)
   whole_fragment f is = each_made (missing_in_definition names) (completed_definition names) definition_whole (definitions_of f) (nothing (missing_in_each (missing_in_definition names) (definitions_of f)) is)
 
+-- so a refusal is that of what is missed
+refused_by : {C : Type 0} (e : SchemaError) (o : Option SchemaError) (made : Result C SchemaError) → (o ≡ None → IsMade made) → unless_refused o made ≡ Err e → o ≡ Some e
+refused_by {C} e (Some x) made whole is = ap Some (inside C x e is)
+  where
+    inside : (C : Type 0) (x e : SchemaError) → err C x ≡ err C e → x ≡ e
+    inside C x e is = ap (λ r. unwrap_or (result_err r) x) is
+refused_by {C} e None made whole is = let both : (y : C) × (made ≡ Ok y) = whole refl in absurd (not_both both.0 e (sym both.1 ∙ is))
+
+pub only_refusal : {Full C : Type 0} (content : Full → C) (result : Result Full (Failure SchemaError)) (m : Missing) (made : Result C SchemaError) → (refusal_of m ≡ None → IsMade made)
+    → Answers (result_map_both content (λ e. e) result) (answer_of m made) → IfRefused result (λ e. refusal_of m ≡ Some e)
+only_refusal content (Ok y) m made whole answers = tt
+only_refusal content (Err NoMemory) m made whole answers = tt
+only_refusal content (Err (Refused e)) m made whole answers = refused_by e (refusal_of m) made whole answers
+
 pub ruleset wholes = (whole_definition, whole_fragment)
 
 pub ruleset parts = (whole_commons, whole_entities, whole_entity, whole_actions, whole_action, whole_apply)
+
+pub ruleset refusals = (only_refusal, whole_fragment, whole_entity, whole_action, whole_apply)

@@ -1,6 +1,6 @@
 -- SPDX-License-Identifier: Apache-2.0
 -- Definitions with the full name that each reference means in its place: the first reference that means nothing declared, or else the same definitions over full names.
-use Rattle.std.specs.Prelude.{◌≡◌, List, [], ◌∷◌, cond, map, Option, Some, None}
+use Rattle.std.specs.Prelude.{◌≡◌, List, cond, map, Option, Some, None}
 use Rattle.std.specs.Option.{option_cmp, option_map}
 use Rattle.std.specs.Ordering.{ordering_then}
 use Rattle.std.specs.declared.cmp.Ordering.{Ordering}
@@ -35,7 +35,6 @@ use Rattle.cedar_written.specs.Reference.{named}
 use Rattle.cedar_written.specs.Through.{through_type}
 use Rattle.cedar_written.specs.declared.conditional_name.ConditionalName.{ConditionalName}
 use Rattle.cedar_written.specs.declared.reference_type.ReferenceType.TheVariants as kind
-use Rattle.cedar_written.specs.declared.ty.SchemaType.{SchemaType}
 use Rattle.cedar_missing.specs.Undeclared.{Parent, refusal_of}
 use Rattle.cedar_missing.specs.declared.missing.Missing.{Missing}
 

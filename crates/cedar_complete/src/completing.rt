@@ -159,7 +159,7 @@ pub(crate) fn complete_around<
     requires in_order { (a b : F) → F.cmp a b ≡ K.Member.order (K.Member.content a) (K.Member.content b) }
     ensures { Answers (result_map_both (λ p. (map K.Member.content p.0, A.Completes.content p.1, B.Completes.content p.2)) (λ e. e) result)
         (all_three (through_set K.Member.order (K.Member.meant (names_of all_defs.now)) keys)
-            (A.Completes.completed (names_of all_defs.now) first) (B.Completes.completed (names_of all_defs.now) second)) }
+        (A.Completes.completed (names_of all_defs.now) first) (B.Completes.completed (names_of all_defs.now) second)) }
 {
     let targets = target_set(alloc, all_defs, &keys)?;
     let first = first.complete(alloc, all_defs)?;
@@ -177,7 +177,7 @@ pub(crate) fn complete_three<A: Completes + Drop, B: Completes + Drop, C: Comple
 ) -> Out<(A::Full, B::Full, C::Full), SchemaError>
     ensures { Answers (result_map_both (λ p. (A.Completes.content p.0, B.Completes.content p.1, C.Completes.content p.2)) (λ e. e) result)
         (all_three (A.Completes.completed (names_of all_defs.now) first) (B.Completes.completed (names_of all_defs.now) second)
-            (C.Completes.completed (names_of all_defs.now) third)) }
+        (C.Completes.completed (names_of all_defs.now) third)) }
 {
     let first = first.complete(alloc, all_defs)?;
     let second = second.complete(alloc, all_defs)?;

@@ -58,8 +58,9 @@ impl Completes for EntityTypeFragment<ConditionalName> {
                 parents,
                 tags,
             } => {
-                let (parents, attributes, tags) =
-                    complete_around(alloc, all_defs, parents, attributes, tags)?;
+                let (parents, attributes, tags) = complete_around(
+                    alloc, all_defs, parents, attributes, tags,
+                )?;
                 Ok(EntityTypeFragment::Standard {
                     attributes,
                     parents,
@@ -138,8 +139,9 @@ impl Completes for ActionFragment<ConditionalName, ConditionalName> {
             attributes,
             loc,
         } = self;
-        let (parents, applies_to, context) =
-            complete_around(alloc, all_defs, parents, applies_to, context)?;
+        let (parents, applies_to, context) = complete_around(
+            alloc, all_defs, parents, applies_to, context,
+        )?;
         Ok(ActionFragment {
             context,
             applies_to,
@@ -193,8 +195,13 @@ impl Completes for ValidatorNamespaceDef<ConditionalName, ConditionalName> {
             entity_types,
             actions,
         } = self;
-        let (common_types, entity_types, actions) =
-            complete_three(alloc, all_defs, common_types, entity_types, actions)?;
+        let (common_types, entity_types, actions) = complete_three(
+            alloc,
+            all_defs,
+            common_types,
+            entity_types,
+            actions,
+        )?;
         Ok(ValidatorNamespaceDef {
             namespace,
             common_types,

@@ -21,8 +21,7 @@ ghost use Rattle.cedar_complete.specs.Completed.{IsMade, completed_action, compl
 pub fn what_misses_nothing_is_made()
     ensures fragment { (names : Names) (f : ValidatorSchemaFragment ConditionalName ConditionalName over_conditional) → refusal_of (missing_in_each (missing_in_definition names) (definitions_of f)) ≡ None → IsMade (completed_fragment names f) }
     ensures definition { (names : Names) (d : ValidatorNamespaceDef ConditionalName ConditionalName over_conditional) → refusal_of (missing_in_definition names d) ≡ None → IsMade (completed_definition names d) }
-{
-}
+{}
 
 /// So are common types, entity types and actions, and what an action applies to.
 #[tactic(auto, using(crate::proofs::NothingMissed::parts))]
@@ -33,5 +32,4 @@ pub fn parts_that_miss_nothing_are_made()
     ensures actions { (names : Names) (d : ActionsDef ConditionalName ConditionalName over_conditional) → refusal_of (missing_in_values (missing_in_action names) d.actions) ≡ None → IsMade (completed_actions names d) }
     ensures action { (names : Names) (a : ActionFragment ConditionalName ConditionalName over_conditional) → refusal_of (missing_in_action names a) ≡ None → IsMade (completed_action names a) }
     ensures applies_to { (names : Names) (a : ValidatorApplySpec ConditionalName) → refusal_of (missing_in_apply names a) ≡ None → IsMade (completed_apply names a) }
-{
-}
+{}
