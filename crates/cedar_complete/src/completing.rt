@@ -22,7 +22,7 @@ use cedar_names::InternalName;
 use cedar_schema_error::SchemaError;
 use std::alloc::Global;
 
-/// What is made over full names.
+/// What has references, of which the same is made over full names.
 pub trait Completes: Sized {
     ghost use Rattle.cedar_schema_error.specs.declared.schema_error.SchemaError.{SchemaError};
 
@@ -38,7 +38,8 @@ pub trait Completes: Sized {
     /// What comes of it, want of memory aside.
     ghost completed: { Names → Self → Result Content SchemaError };
 
-    /// The same with the full name that each reference means, or the refusal of a reference that means none.
+    /// The same with the full name that each reference means, or the refusal of a reference that
+    /// means none.
     fn complete(self, alloc: Global, all_defs: &AllDefs) -> Out<Self::Full, SchemaError>
         ensures { Answers (result_map_both content (λ e. e) result) (completed (names_of all_defs.now) self) };
 }

@@ -16,7 +16,8 @@ ghost use Rattle.cedar_missing.specs.Undeclared.{missing_in_action, missing_in_a
 ghost use Rattle.cedar_written.specs.declared.conditional_name.ConditionalName.{ConditionalName};
 ghost use Rattle.cedar_complete.specs.Completed.{IsMade, completed_action, completed_actions, completed_apply, completed_commons, completed_definition, completed_entities, completed_entity, completed_fragment};
 
-/// The definitions of a fragment, and those of a namespace, are made over full names where they miss nothing.
+/// The definitions of a fragment, and those of a namespace, are made over full names where they
+/// miss nothing.
 #[tactic(auto, using(crate::proofs::NothingMissed::wholes))]
 pub fn what_misses_nothing_is_made()
     ensures fragment { (names : Names) (f : ValidatorSchemaFragment ConditionalName ConditionalName over_conditional) → refusal_of (missing_in_each (missing_in_definition names) (definitions_of f)) ≡ None → IsMade (completed_fragment names f) }

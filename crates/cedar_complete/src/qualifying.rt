@@ -21,9 +21,10 @@ use std::alloc::Global;
 
 /// Definitions, and their parts, whose references may be resolved.
 pub trait FullyQualifyDefinitions: Completes + HasReferences {
-    /// The same with the full name that each reference means. Refused with all references to types that mean nothing
-    /// declared, as far as each declaration reports them; where there are none, with all such parents of actions; where
-    /// there are none, with the first name with `__cedar` that a parent, a principal or a resource means; else never.
+    /// The same with the full name that each reference means. Refused with all references to types
+    /// that mean nothing declared, as far as each declaration reports them; where there are none,
+    /// with all such parents of actions; where there are none, with the first name with `__cedar`
+    /// that a parent, a principal or a resource means; else never.
     fn fully_qualify_type_references(
         self,
         alloc: Global,
