@@ -37,6 +37,8 @@ type Lines = Mem<Option<String>>;
 fn lines_of(alloc: Global, verb: &str, words: &[&str], input: &str) -> Lines {
     let lines = cedar_row_trees::answer(alloc, verb, words, input);
     let lines = either(lines, cedar_row_calls::answer(alloc, verb, words, input));
+    let lines = either(lines, cedar_row_convert::answer(alloc, verb, words, input));
+    let lines = either(lines, cedar_row_json::answer(alloc, verb, words, input));
     let lines = either(lines, cedar_row_print::answer(alloc, verb, words, input));
     let lines = either(lines, cedar_row_schemas::answer(alloc, verb, words, input));
     either(lines, cedar_row_verbs::answer(alloc, verb, words, input))
