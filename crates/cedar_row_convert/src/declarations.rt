@@ -8,8 +8,8 @@ use cedar_fragment::{
 };
 use cedar_names::Annotations;
 
-/// Adds the definitions of a namespace: its common types, its entity types and its actions, a line each, and its
-/// annotations before them.
+/// Adds the definitions of a namespace: its common types, its entity types and its actions, a line
+/// each, and its annotations before them.
 pub fn add_definition(writing: &mut Writing, definition: &NamespaceDefinition<RawName>) -> Mem<()> {
     add_annotations(writing, "  ", &definition.annotations)?;
     for (id, common) in definition.common_types.iter() {

@@ -7,8 +7,8 @@ use cedar_fragment::{Fragment, RawName};
 use cedar_names::Extensions;
 use std::alloc::Global;
 
-/// `print`: the fragment that the input declares, in the human syntax, or why it can't be written; or what is said of an
-/// input that declares none.
+/// `print`: the fragment that the input declares, in the human syntax, or why it can't be written;
+/// or what is said of an input that declares none.
 pub fn print(alloc: Global, input: &str) -> Mem<String> {
     let extensions = Extensions::all_available(alloc)?;
     print_told(

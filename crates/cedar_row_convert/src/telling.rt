@@ -13,8 +13,8 @@ use std::alloc::Global;
 /// What a text declares, or why it declares nothing.
 pub(crate) type Made = Out<(Fragment<RawName>, Vec<SchemaWarning>), CedarSchemaParseErrors>;
 
-/// The fragment that the input declares, with all places where the word `places` is given; or all that is wrong with it,
-/// each fault with its places and its help.
+/// The fragment that the input declares, with all places where the word `places` is given; or all
+/// that is wrong with it, each fault with its places and its help.
 pub fn fragment(alloc: Global, words: &[&str], input: &str) -> Mem<String> {
     let places = words.iter().any(|word| *word == "places");
     let extensions = Extensions::all_available(alloc)?;
@@ -25,7 +25,8 @@ pub fn fragment(alloc: Global, words: &[&str], input: &str) -> Mem<String> {
     )
 }
 
-/// The warnings of the names of the input, each with its places; or all that is wrong with the input.
+/// The warnings of the names of the input, each with its places; or all that is wrong with the
+/// input.
 pub fn warnings(alloc: Global, input: &str) -> Mem<String> {
     let extensions = Extensions::all_available(alloc)?;
     warnings_told(

@@ -4,7 +4,8 @@ use cedar_data::{Map, Mem, Text};
 use cedar_fragment::{RawName, SchemaType, TypeOfAttribute, TypeVariant};
 use cedar_names::Annotations;
 
-/// Adds a type; with `common` before the name of a common type, and `entity` or `extension` before one of those.
+/// Adds a type; with `common` before the name of a common type, and `entity` or `extension` before
+/// one of those.
 #[cycle(types)]
 pub fn add_type(writing: &mut Writing, ty: &SchemaType<RawName>) -> Mem<()> {
     match ty {
