@@ -33,10 +33,13 @@ fn lines_answered(alloc: Global, row: &Row, input: &str) -> Mem<Option<Answer>> 
 /// Lines, where a crate of verbs knows the verb.
 type Lines = Mem<Option<String>>;
 
-/// What a verb on texts says, a line each. Each crate of verbs is asked, and one at most knows the verb.
+/// What a verb on texts says, a line each. Each crate of verbs is asked, and one at most knows the
+/// verb.
 fn lines_of(alloc: Global, verb: &str, words: &[&str], input: &str) -> Lines {
     let lines = cedar_row_trees::answer(alloc, verb, words, input);
     let lines = either(lines, cedar_row_calls::answer(alloc, verb, words, input));
+    let lines = either(lines, cedar_row_convert::answer(alloc, verb, words, input));
+    let lines = either(lines, cedar_row_json::answer(alloc, verb, words, input));
     let lines = either(lines, cedar_row_print::answer(alloc, verb, words, input));
     let lines = either(lines, cedar_row_schemas::answer(alloc, verb, words, input));
     either(lines, cedar_row_verbs::answer(alloc, verb, words, input))

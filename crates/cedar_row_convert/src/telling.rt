@@ -1,0 +1,130 @@
+// SPDX-License-Identifier: Apache-2.0
+use crate::declarations::add_definition;
+use crate::writing::Writing;
+use cedar_convert_text::{
+    CedarSchemaParseErrors, SchemaWarning, ToJsonSchemaError, parse_cedar_schema_fragment,
+};
+use cedar_data::{Failure, Mem, NoMemory, Out};
+use cedar_fragment::{Fragment, RawName};
+use cedar_names::Extensions;
+use cedar_text::Span;
+use std::alloc::Global;
+
+/// What a text declares, or why it declares nothing.
+pub(crate) type Made = Out<(Fragment<RawName>, Vec<SchemaWarning>), CedarSchemaParseErrors>;
+
+/// The fragment that the input declares, with all places where the word `places` is given; or all
+/// that is wrong with it, each fault with its places and its help.
+pub fn fragment(alloc: Global, words: &[&str], input: &str) -> Mem<String> {
+    let places = words.iter().any(|word| *word == "places");
+    let extensions = Extensions::all_available(alloc)?;
+    fragment_told(
+        alloc,
+        places,
+        parse_cedar_schema_fragment(alloc, input, &extensions),
+    )
+}
+
+/// The warnings of the names of the input, each with its places; or all that is wrong with the
+/// input.
+pub fn warnings(alloc: Global, input: &str) -> Mem<String> {
+    let extensions = Extensions::all_available(alloc)?;
+    warnings_told(
+        alloc,
+        parse_cedar_schema_fragment(alloc, input, &extensions),
+    )
+}
+
+fn fragment_told(alloc: Global, places: bool, made: Made) -> Mem<String> {
+    match made {
+        Ok((fragment, _warnings)) => fragment_lines(alloc, places, &fragment),
+        Err(Failure::Refused(errors)) => error_lines(alloc, &errors),
+        Err(Failure::NoMemory) => Err(NoMemory),
+    }
+}
+
+fn warnings_told(alloc: Global, made: Made) -> Mem<String> {
+    match made {
+        Ok((_fragment, warnings)) => warning_lines(alloc, warnings.as_slice()),
+        Err(Failure::Refused(errors)) => error_lines(alloc, &errors),
+        Err(Failure::NoMemory) => Err(NoMemory),
+    }
+}
+
+fn fragment_lines(alloc: Global, places: bool, fragment: &Fragment<RawName>) -> Mem<String> {
+    let mut writing = Writing::new(alloc, places);
+    add_fragment(&mut writing, fragment)?;
+    Ok(writing.into_text())
+}
+
+fn warning_lines(alloc: Global, warnings: &[SchemaWarning]) -> Mem<String> {
+    let mut writing = Writing::new(alloc, true);
+    for warning in warnings {
+        add_warning(&mut writing, warning)?;
+    }
+    writing.add("end of warnings\n")?;
+    Ok(writing.into_text())
+}
+
+fn error_lines(alloc: Global, errors: &CedarSchemaParseErrors) -> Mem<String> {
+    let mut writing = Writing::new(alloc, true);
+    add_errors(&mut writing, errors)?;
+    Ok(writing.into_text())
+}
+
+fn add_fragment(writing: &mut Writing, fragment: &Fragment<RawName>) -> Mem<()> {
+    for (name, definition) in fragment.0.iter() {
+        match name {
+            None => writing.add("no namespace\n")?,
+            Some(name) => {
+                let line = format!(in writing.alloc; "namespace {name}\n")?;
+                writing.add(line.as_str())?;
+            }
+        }
+        add_definition(writing, definition)?;
+    }
+    writing.add("end of fragment\n")
+}
+
+fn add_errors(writing: &mut Writing, errors: &CedarSchemaParseErrors) -> Mem<()> {
+    match errors {
+        CedarSchemaParseErrors::SyntaxError(_) => {
+            let line = format!(in writing.alloc; "no schema: {errors}\n")?;
+            writing.add(line.as_str())
+        }
+        CedarSchemaParseErrors::JsonError(faults) => {
+            for fault in faults.iter() {
+                add_fault(writing, fault)?;
+            }
+            Ok(())
+        }
+    }
+}
+
+fn add_fault(writing: &mut Writing, fault: &ToJsonSchemaError) -> Mem<()> {
+    let line = format!(in writing.alloc; "{fault}\n")?;
+    writing.add(line.as_str())?;
+    let spans = fault.spans(writing.alloc)?;
+    add_spans(writing, spans.as_slice())?;
+    if let Some(help) = fault.help(writing.alloc)? {
+        let line = format!(in writing.alloc; "  help: {help}\n")?;
+        writing.add(line.as_str())?;
+    }
+    Ok(())
+}
+
+fn add_warning(writing: &mut Writing, warning: &SchemaWarning) -> Mem<()> {
+    let line = format!(in writing.alloc; "{warning}\n")?;
+    writing.add(line.as_str())?;
+    let spans = warning.spans(writing.alloc)?;
+    add_spans(writing, spans.as_slice())
+}
+
+fn add_spans(writing: &mut Writing, spans: &[Span]) -> Mem<()> {
+    writing.add("  at")?;
+    for span in spans {
+        let place = format!(in writing.alloc; " {}..{}", span.start, span.end)?;
+        writing.add(place.as_str())?;
+    }
+    writing.add("\n")
+}
