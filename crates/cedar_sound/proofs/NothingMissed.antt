@@ -108,8 +108,7 @@ module _ (names : Names) where
 
   entity_whole : (e : EntityDefinition NameReference) → missing_in_entity names e ≡ [] → AreWhole e
   entity_whole e none =
-      let parts = (none_of_both (undefined names (parents_of e)) (flat_map (missing_in names) (shape_of e) ++ flat_map (missing_in names) (tags_of e)) none).1 in
-      (
+      let parts = (none_of_both (undefined names (parents_of e)) (flat_map (missing_in names) (shape_of e) ++ flat_map (missing_in names) (tags_of e)) none).1 in (
         none_of_each (missing_in names) (shape_of e) (empty_left (flat_map (missing_in names) (shape_of e)) (flat_map (missing_in names) (tags_of e)) parts),
         none_of_each (missing_in names) (tags_of e) (empty_right (flat_map (missing_in names) (shape_of e)) (flat_map (missing_in names) (tags_of e)) parts),
       )
@@ -140,22 +139,22 @@ module _ (names : Names) where
     entities_whole = pass_map_of _ AreWhole (flat_map (λ ns. ns.entity_types) all) (pass_flat (λ e. AreWhole e.1) (λ ns. ns.entity_types) all
         (pass_weaker (λ ns. missing_in_namespace names ns ≡ []) (λ ns. AllPass (λ e. AreWhole e.1) ns.entity_types)
         (λ ns e. pass_weaker (λ x. missing_in_entity names x.1 ≡ []) (λ x. AreWhole x.1) (λ x. entity_whole x.1) ns.entity_types
-          (none_of_each (λ x. missing_in_entity names x.1) ns.entity_types (empty_right (commons_of ns) (entities_of ns) (empty_left (commons_of ns ++ entities_of ns) (actions_of ns) e)))) all each))
+        (none_of_each (λ x. missing_in_entity names x.1) ns.entity_types (empty_right (commons_of ns) (entities_of ns) (empty_left (commons_of ns ++ entities_of ns) (actions_of ns) e)))) all each))
 
     contexts_whole : AllPass (λ a. IsWhole a.1.context) (actions_in all)
     contexts_whole = pass_map_of _ (λ (a : ActionDefinition NameReference ActionReference). IsWhole a.context) (flat_map (λ ns. ns.actions) all) (pass_flat (λ a. IsWhole a.1.context) (λ ns. ns.actions) all
         (pass_weaker (λ ns. missing_in_namespace names ns ≡ []) (λ ns. AllPass (λ a. IsWhole a.1.context) ns.actions)
         (λ ns e. pass_weaker (λ x. missing_in_action names x.1 ≡ []) (λ x. IsWhole x.1.context) (λ x. context_whole x.1) ns.actions
-          (none_of_each (λ x. missing_in_action names x.1) ns.actions (empty_right (commons_of ns ++ entities_of ns) (actions_of ns) e))) all each))
+        (none_of_each (λ x. missing_in_action names x.1) ns.actions (empty_right (commons_of ns ++ entities_of ns) (actions_of ns) e))) all each))
 
     -- no use of a type does
     pub uses_whole : AllPass (λ u. IsWhole u.1) (uses_in all)
     uses_whole = pass_append (λ u. IsWhole u.1) (shapes ++ tags) contexts
         (pass_append (λ u. IsWhole u.1) shapes tags
-          (pass_flat (λ u. IsWhole u.1) (λ e. map (λ t. (Shape e.0, t)) (shape_of e.1)) types
-            (pass_weaker (λ e. AreWhole e.1) (λ e. AllPass (λ u. IsWhole u.1) (map (λ t. (Shape e.0, t)) (shape_of e.1))) (λ e w. pass_map (λ u. IsWhole u.1) (λ t. (Shape e.0, t)) (shape_of e.1) w.0) types entities_whole))
-          (pass_flat (λ u. IsWhole u.1) (λ e. map (λ t. (Tags e.0, t)) (tags_of e.1)) types
-            (pass_weaker (λ e. AreWhole e.1) (λ e. AllPass (λ u. IsWhole u.1) (map (λ t. (Tags e.0, t)) (tags_of e.1))) (λ e w. pass_map (λ u. IsWhole u.1) (λ t. (Tags e.0, t)) (tags_of e.1) w.1) types entities_whole)))
+        (pass_flat (λ u. IsWhole u.1) (λ e. map (λ t. (Shape e.0, t)) (shape_of e.1)) types
+        (pass_weaker (λ e. AreWhole e.1) (λ e. AllPass (λ u. IsWhole u.1) (map (λ t. (Shape e.0, t)) (shape_of e.1))) (λ e w. pass_map (λ u. IsWhole u.1) (λ t. (Shape e.0, t)) (shape_of e.1) w.0) types entities_whole))
+        (pass_flat (λ u. IsWhole u.1) (λ e. map (λ t. (Tags e.0, t)) (tags_of e.1)) types
+        (pass_weaker (λ e. AreWhole e.1) (λ e. AllPass (λ u. IsWhole u.1) (map (λ t. (Tags e.0, t)) (tags_of e.1))) (λ e w. pass_map (λ u. IsWhole u.1) (λ t. (Tags e.0, t)) (tags_of e.1) w.1) types entities_whole)))
         (pass_map (λ u. IsWhole u.1) (λ a. (Context a.0, a.1.context)) (actions_in all) contexts_whole)
       where
         types : Types
@@ -187,10 +186,10 @@ module _ (names : Names) where
   applications_free all none = pass_map_of _ Free (flat_map (λ ns. ns.actions) all) (pass_flat (λ a. Free a.1) (λ ns. ns.actions) all
       (pass_weaker (λ ns. AreFree (memberships names ns)) (λ ns. AllPass (λ a. Free a.1) ns.actions)
       (λ ns free. pass_weaker (λ a. AreFree (action_memberships names a.1)) (λ a. Free a.1)
-        (λ a f. let both = pass_left (λ n. has_cedar n ≡ false) (targets names a.1.principals ++ targets names a.1.resources) (parent_types names a.1.parents) f in
-          (pass_left (λ n. has_cedar n ≡ false) (targets names a.1.principals) (targets names a.1.resources) both, pass_right (λ n. has_cedar n ≡ false) (targets names a.1.principals) (targets names a.1.resources) both)) ns.actions
-        (pass_each (λ n. has_cedar n ≡ false) (λ a. action_memberships names a.1) ns.actions
-          (pass_right (λ n. has_cedar n ≡ false) (flat_map (λ e. entity_memberships names e.1) ns.entity_types) (flat_map (λ a. action_memberships names a.1) ns.actions) free))) all
+      (λ a f. let both = pass_left (λ n. has_cedar n ≡ false) (targets names a.1.principals ++ targets names a.1.resources) (parent_types names a.1.parents) f in
+      (pass_left (λ n. has_cedar n ≡ false) (targets names a.1.principals) (targets names a.1.resources) both, pass_right (λ n. has_cedar n ≡ false) (targets names a.1.principals) (targets names a.1.resources) both)) ns.actions
+      (pass_each (λ n. has_cedar n ≡ false) (λ a. action_memberships names a.1) ns.actions
+      (pass_right (λ n. has_cedar n ≡ false) (flat_map (λ e. entity_memberships names e.1) ns.entity_types) (flat_map (λ a. action_memberships names a.1) ns.actions) free))) all
       (pass_each (λ n. has_cedar n ≡ false) (memberships names) all (none_kept has_cedar (flat_map (memberships names) all) none))))
     where
       Free : ActionDefinition NameReference ActionReference → Type 0
@@ -201,5 +200,5 @@ module _ (names : Names) where
   parents_free all none = pass_map_of _ (λ (e : EntityDefinition NameReference). AreFree (entity_memberships names e)) (flat_map (λ ns. ns.entity_types) all) (pass_flat (λ e. AreFree (entity_memberships names e.1)) (λ ns. ns.entity_types) all
       (pass_weaker (λ ns. AreFree (memberships names ns)) (λ ns. AllPass (λ e. AreFree (entity_memberships names e.1)) ns.entity_types)
       (λ ns free. pass_each (λ n. has_cedar n ≡ false) (λ e. entity_memberships names e.1) ns.entity_types
-        (pass_left (λ n. has_cedar n ≡ false) (flat_map (λ e. entity_memberships names e.1) ns.entity_types) (flat_map (λ a. action_memberships names a.1) ns.actions) free)) all
+      (pass_left (λ n. has_cedar n ≡ false) (flat_map (λ e. entity_memberships names e.1) ns.entity_types) (flat_map (λ a. action_memberships names a.1) ns.actions) free)) all
       (pass_each (λ n. has_cedar n ≡ false) (memberships names) all (none_kept has_cedar (flat_map (memberships names) all) none))))
