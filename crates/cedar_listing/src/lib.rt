@@ -1,0 +1,16 @@
+// SPDX-License-Identifier: Apache-2.0
+//! The listing of a resolved schema: a line for each entity type, for each action and for each warning.
+#![tactic(auto)]
+
+mod kinds;
+mod listing;
+mod lists;
+mod names;
+mod quoting;
+mod type_text;
+mod warnings;
+
+pub use cedar_convert_warnings::SchemaWarning;
+pub use cedar_resolved::ValidatorSchema;
+pub use cedar_streams::{Sink, SinkFailed};
+pub use listing::write_listing;
