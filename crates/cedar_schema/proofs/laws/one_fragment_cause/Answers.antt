@@ -1,0 +1,6 @@
+-- SPDX-License-Identifier: Apache-2.0
+use Rattle.cedar_schema.proofs.Refusing.{one_fragment_cause}
+use Rattle.cedar_schema.proofs.laws.one_fragment_cause.Goals as goal
+
+pub returns : goal.returns
+returns c = one_fragment_cause

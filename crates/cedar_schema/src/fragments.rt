@@ -1,0 +1,138 @@
+// SPDX-License-Identifier: Apache-2.0
+ghost use Rattle.std.specs.Prelude.{◌≡◌, [], map, IfOk};
+ghost use Rattle.cedar_convert_fragment.specs.Views.{definition_seen, fragment_seen};
+ghost use Rattle.cedar_data.specs.Answers.{IfRefused};
+ghost use Rattle.cedar_data.specs.Firsts.{IsFirst};
+ghost use Rattle.cedar_definitions.specs.Structures.{definitions_of};
+ghost use Rattle.cedar_fragment_world.specs.FragmentFaults.{fragment_faults};
+ghost use Rattle.cedar_fragment_world.specs.FragmentWorlds.{namespaces_of, world_of_fragment};
+ghost use Rattle.cedar_names.specs.Extensions.{extension_words};
+ghost use Rattle.cedar_phases.specs.Holding.{world_of};
+ghost use Rattle.cedar_phases.specs.SchemaViews.{IsNamed, schema_in};
+ghost use Rattle.cedar_schema.specs.Fragments.{FragmentCause, SoundFragment, all_extensions, unnamed};
+ghost use Rattle.cedar_schema_error.specs.Told.{told};
+ghost use Rattle.cedar_schema_error.specs.declared.action_behavior.ActionBehavior.TheVariants.{ProhibitAttributes};
+ghost use Rattle.cedar_world.specs.Denotes.{Denotes};
+ghost use Rattle.cedar_world.specs.DefinitionViews.{namespace_in};
+
+use cedar_data::{Map, Mem, Out};
+use cedar_definitions::ValidatorSchemaFragment;
+use cedar_fragment::{ConditionalName, Fragment, NamespaceDefinition, RawName};
+use cedar_names::Extensions;
+use cedar_namespace_definitions::FromSchemaFragment;
+use cedar_phases::FromSchemaFragments;
+use cedar_resolved::ValidatorSchema;
+use cedar_schema_error::{ActionBehavior, SchemaError};
+use std::alloc::Global;
+
+/// What a fragment denotes, where actions may have no attributes.
+pub trait FromFragment: Sized {
+    /// What the fragment denotes, with all extension types that there are. Refused with the first of what is wrong with
+    /// its definitions, or else with their world.
+    fn from_fragment(alloc: Global, fragment: Fragment<RawName>) -> Out<Self, SchemaError>;
+
+    /// The same with these extension types.
+    fn from_fragment_with(
+        alloc: Global,
+        fragment: Fragment<RawName>,
+        extensions: &Extensions,
+    ) -> Out<Self, SchemaError>;
+
+    /// What the fragment of one namespace denotes, which has no name and declares this.
+    fn from_namespace_definition(
+        alloc: Global,
+        namespace_def: NamespaceDefinition<RawName>,
+    ) -> Out<Self, SchemaError>;
+}
+
+/// The definitions of a fragment; refused with their first fault.
+fn define(
+    alloc: Global,
+    fragment: Fragment<RawName>,
+    extensions: &Extensions,
+) -> Out<ValidatorSchemaFragment<ConditionalName, ConditionalName>, SchemaError>
+    ensures namespaces { IfOk result (λ made. map namespace_in (definitions_of made) ≡ namespaces_of (fragment_seen fragment)) }
+    ensures faultless { IfOk result (λ _. fragment_faults ProhibitAttributes (fragment_seen fragment) ≡ []) }
+    ensures refused { IfRefused result (λ e. IsFirst (fragment_faults ProhibitAttributes (fragment_seen fragment)) (told e)) }
+{
+    ValidatorSchemaFragment::from_schema_fragment(
+        alloc,
+        fragment,
+        ActionBehavior::ProhibitAttributes,
+        extensions,
+    )
+}
+
+/// The definitions of a fragment, alone in a list; refused with their first fault.
+fn define_alone(
+    alloc: Global,
+    fragment: Fragment<RawName>,
+    extensions: &Extensions,
+) -> Out<Vec<ValidatorSchemaFragment<ConditionalName, ConditionalName>>, SchemaError>
+    ensures world { IfOk result (λ made. world_of made.items extensions.now ≡ world_of_fragment (fragment_seen fragment) (extension_words extensions.now)) }
+    ensures faultless { IfOk result (λ _. fragment_faults ProhibitAttributes (fragment_seen fragment) ≡ []) }
+    ensures refused { IfRefused result (λ e. IsFirst (fragment_faults ProhibitAttributes (fragment_seen fragment)) (told e)) }
+{
+    let definitions = define(alloc, fragment, extensions)?;
+    let mut alone = Vec::new(alloc);
+    alone.push(definitions)?;
+    Ok(alone)
+}
+
+/// The fragment of one namespace, which has no name.
+fn unnamed(
+    alloc: Global,
+    namespace_def: NamespaceDefinition<RawName>,
+) -> Mem<Fragment<RawName>>
+    ensures { IfOk result (λ fragment. fragment_seen fragment ≡ unnamed (definition_seen namespace_def)) }
+{
+    let mut namespaces = Map::new(alloc);
+    namespaces.put(None, namespace_def)?;
+    Ok(Fragment(namespaces))
+}
+
+impl FromFragment for ValidatorSchema {
+    fn from_fragment(
+        alloc: Global,
+        fragment: Fragment<RawName>,
+    ) -> Out<ValidatorSchema, SchemaError>
+        ensures sound { IfOk result (λ _. SoundFragment ProhibitAttributes all_extensions (fragment_seen fragment)) }
+        ensures denotes { IfOk result (λ schema. Denotes (world_of_fragment (fragment_seen fragment) all_extensions) (schema_in schema)) }
+        ensures named { IfOk result IsNamed }
+        ensures refused { IfRefused result (λ e. FragmentCause ProhibitAttributes all_extensions (fragment_seen fragment) (told e)) }
+    {
+        let extensions = Extensions::all_available(alloc)?;
+        ValidatorSchema::from_fragment_with(alloc, fragment, &extensions)
+    }
+
+    fn from_fragment_with(
+        alloc: Global,
+        fragment: Fragment<RawName>,
+        extensions: &Extensions,
+    ) -> Out<ValidatorSchema, SchemaError>
+        ensures sound { IfOk result (λ _. SoundFragment ProhibitAttributes (extension_words extensions.now) (fragment_seen fragment)) }
+        ensures denotes { IfOk result (λ schema. Denotes (world_of_fragment (fragment_seen fragment) (extension_words extensions.now)) (schema_in schema)) }
+        ensures named { IfOk result IsNamed }
+        ensures refused { IfRefused result (λ e. FragmentCause ProhibitAttributes (extension_words extensions.now) (fragment_seen fragment) (told e)) }
+    {
+        match define_alone(alloc, fragment, extensions) {
+            Ok(definitions) => {
+                ValidatorSchema::from_schema_fragments(alloc, definitions, extensions)
+            }
+            Err(failure) => Err(failure),
+        }
+    }
+
+    fn from_namespace_definition(
+        alloc: Global,
+        namespace_def: NamespaceDefinition<RawName>,
+    ) -> Out<ValidatorSchema, SchemaError>
+        ensures sound { IfOk result (λ _. SoundFragment ProhibitAttributes all_extensions (unnamed (definition_seen namespace_def))) }
+        ensures denotes { IfOk result (λ schema. Denotes (world_of_fragment (unnamed (definition_seen namespace_def)) all_extensions) (schema_in schema)) }
+        ensures named { IfOk result IsNamed }
+        ensures refused { IfRefused result (λ e. FragmentCause ProhibitAttributes all_extensions (unnamed (definition_seen namespace_def)) (told e)) }
+    {
+        let fragment = unnamed(alloc, namespace_def)?;
+        ValidatorSchema::from_fragment(alloc, fragment)
+    }
+}

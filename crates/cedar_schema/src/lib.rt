@@ -1,0 +1,14 @@
+// SPDX-License-Identifier: Apache-2.0
+//! From texts in the human syntax, and from fragments, to the schemas that they denote; or to why they denote none.
+#![tactic(auto)]
+
+mod fragments;
+mod laws;
+mod texts;
+
+pub use fragments::FromFragment;
+pub use laws::{
+    declared_or_not, one_declared, one_fragment_cause, one_schema_of_text, one_text_cause,
+    sound_fragment_or_refused, well_formed_or_refused,
+};
+pub use texts::{FragmentText, FromCedarSchema};

@@ -1,0 +1,122 @@
+// SPDX-License-Identifier: Apache-2.0
+ghost use Rattle.std.specs.Prelude.{◌≡◌, List, IfOk};
+ghost use Rattle.cedar_convert_fragment.specs.Fragments.{Fragment as Declared};
+ghost use Rattle.cedar_convert_fragment.specs.Views.{fragment_seen};
+ghost use Rattle.cedar_convert_text.specs.Texts.{DeclaresText};
+ghost use Rattle.cedar_convert_warnings.specs.declared.warnings.SchemaWarning.{SchemaWarning as Warning};
+ghost use Rattle.cedar_data.specs.Answers.{Accepts, IfRefused};
+ghost use Rattle.cedar_fragment_world.specs.FragmentWorlds.{world_of_fragment};
+ghost use Rattle.cedar_names.specs.Extensions.{extension_words};
+ghost use Rattle.cedar_phases.specs.SchemaViews.{IsNamed, schema_in};
+ghost use Rattle.cedar_schema.specs.Fragments.{SoundFragment, all_extensions};
+ghost use Rattle.cedar_schema.specs.Texts.{DenotesSchema, IsWellFormed, ParsingCause, SchemaCause, TextCause};
+ghost use Rattle.cedar_schema_error.specs.declared.action_behavior.ActionBehavior.TheVariants.{ProhibitAttributes};
+ghost use Rattle.cedar_world.specs.Denotes.{Denotes};
+
+use crate::fragments::FromFragment;
+use cedar_convert_text::{SchemaWarning, parse_cedar_schema_fragment};
+use cedar_data::{Failure, Out};
+use cedar_fragment::{Fragment, RawName};
+use cedar_names::Extensions;
+use cedar_resolved::ValidatorSchema;
+use cedar_schema_errors::{CedarSchemaError, CedarSchemaParseError};
+use std::alloc::Global;
+
+/// What a text in the human syntax declares.
+pub trait FragmentText: Sized {
+    /// What the text declares, and the warnings of its names. Refused with why it declares nothing.
+    fn from_cedarschema_str(
+        alloc: Global,
+        src: &str,
+        extensions: &Extensions,
+    ) -> Out<(Self, Vec<SchemaWarning>), CedarSchemaError>;
+}
+
+/// What a text in the human syntax denotes.
+pub trait FromCedarSchema: Sized {
+    /// What the text denotes with these extension types, and the warnings of its names. Refused with why it declares
+    /// nothing, or else with why what it declares is not sound.
+    fn from_cedarschema_str(
+        alloc: Global,
+        src: &str,
+        extensions: &Extensions,
+    ) -> Out<(Self, Vec<SchemaWarning>), CedarSchemaError>;
+
+    /// What the text denotes with all extension types that there are.
+    fn parse(alloc: Global, src: &str) -> Out<Self, CedarSchemaError>;
+}
+
+impl FragmentText for Fragment<RawName> {
+    fn from_cedarschema_str(
+        alloc: Global,
+        src: &str,
+        extensions: &Extensions,
+    ) -> Out<(Fragment<RawName>, Vec<SchemaWarning>), CedarSchemaError>
+        ensures declares { IfOk result (λ made. DeclaresText src.now (extension_words extensions.now) (fragment_seen made.0) made.1.items) }
+        ensures refused { IfRefused result (ParsingCause src.now) }
+        ensures accepts { (F : Declared) (warned : List Warning) → DeclaresText src.now (extension_words extensions.now) F warned
+            → Accepts (λ made. (fragment_seen made.0 ≡ F) × (made.1.items ≡ warned)) result }
+    {
+        match parse_cedar_schema_fragment(alloc, src, extensions) {
+            Ok(made) => Ok(made),
+            Err(Failure::Refused(errors)) => {
+                let error = CedarSchemaParseError::new(errors, src);
+                Err(Failure::Refused(CedarSchemaError::Parsing(error)))
+            }
+            Err(Failure::NoMemory) => Err(Failure::NoMemory),
+        }
+    }
+}
+
+/// The schema that a fragment denotes, with the warnings that are given. Refused with why the fragment is not sound.
+fn with_schema(
+    alloc: Global,
+    declared: (Fragment<RawName>, Vec<SchemaWarning>),
+    extensions: &Extensions,
+) -> Out<(ValidatorSchema, Vec<SchemaWarning>), CedarSchemaError>
+    ensures sound { IfOk result (λ _. SoundFragment ProhibitAttributes (extension_words extensions.now) (fragment_seen declared.0)) }
+    ensures denotes { IfOk result (λ made. Denotes (world_of_fragment (fragment_seen declared.0) (extension_words extensions.now)) (schema_in made.0)) }
+    ensures warnings { IfOk result (λ made. made.1.items ≡ declared.1.items) }
+    ensures named { IfOk result (λ made. IsNamed made.0) }
+    ensures refused { IfRefused result (SchemaCause (extension_words extensions.now) (fragment_seen declared.0)) }
+{
+    let (fragment, warnings) = declared;
+    match ValidatorSchema::from_fragment_with(alloc, fragment, extensions) {
+        Ok(schema) => Ok((schema, warnings)),
+        Err(Failure::Refused(error)) => Err(Failure::Refused(CedarSchemaError::Schema(error))),
+        Err(Failure::NoMemory) => Err(Failure::NoMemory),
+    }
+}
+
+impl FromCedarSchema for ValidatorSchema {
+    fn from_cedarschema_str(
+        alloc: Global,
+        src: &str,
+        extensions: &Extensions,
+    ) -> Out<(ValidatorSchema, Vec<SchemaWarning>), CedarSchemaError>
+        ensures denotes { IfOk result (λ made. DenotesSchema src.now (extension_words extensions.now) (schema_in made.0) made.1.items) }
+        ensures named { IfOk result (λ made. IsNamed made.0) }
+        ensures refused { IfRefused result (TextCause src.now (extension_words extensions.now)) }
+        ensures accepts { (F : Declared) (warned : List Warning) → IsWellFormed src.now (extension_words extensions.now) F warned
+            → Accepts (λ made. Denotes (world_of_fragment F (extension_words extensions.now)) (schema_in made.0) × (made.1.items ≡ warned)) result }
+    {
+        match Fragment::from_cedarschema_str(alloc, src, extensions) {
+            Ok(declared) => with_schema(alloc, declared, extensions),
+            Err(failure) => Err(failure),
+        }
+    }
+
+    fn parse(alloc: Global, src: &str) -> Out<ValidatorSchema, CedarSchemaError>
+        ensures denotes { IfOk result (λ schema. (warned : List Warning) × DenotesSchema src.now all_extensions (schema_in schema) warned) }
+        ensures named { IfOk result IsNamed }
+        ensures refused { IfRefused result (TextCause src.now all_extensions) }
+        ensures accepts { (F : Declared) (warned : List Warning) → IsWellFormed src.now all_extensions F warned
+            → Accepts (λ schema. Denotes (world_of_fragment F all_extensions) (schema_in schema)) result }
+    {
+        let extensions = Extensions::all_available(alloc)?;
+        match ValidatorSchema::from_cedarschema_str(alloc, src, &extensions) {
+            Ok((schema, _)) => Ok(schema),
+            Err(failure) => Err(failure),
+        }
+    }
+}

@@ -1,0 +1,11 @@
+// SPDX-License-Identifier: Apache-2.0
+//! Why a text or a fragment becomes no schema: it can't be parsed, or what it declares is at fault.
+#![tactic(auto)]
+
+mod parse_error;
+mod schema_error;
+
+pub use cedar_convert_text::CedarSchemaParseErrors;
+pub use cedar_schema_error::SchemaError;
+pub use parse_error::CedarSchemaParseError;
+pub use schema_error::CedarSchemaError;
