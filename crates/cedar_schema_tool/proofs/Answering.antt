@@ -1,15 +1,19 @@
 -- SPDX-License-Identifier: Apache-2.0
 -- From what was read and how it was answered to what the run did.
-use Rattle.std.proofs.Common.{◌≡◌, ℕ, ◌<◌, List, length, inl, inr, refl, ap, sym, ◌∙◌, subst, arith, IsUtf8}
+use Rattle.std.proofs.Common.{◌≡◌, ℕ, ◌<◌, List, length, Result, Ok, Err, IfOk, inl, inr, refl, ap, sym, ◌∙◌, subst, arith, IsUtf8}
 use Rattle.cedar_convert_fragment.specs.Fragments.{Fragment}
+use Rattle.cedar_data.specs.Answers as results
+use Rattle.cedar_data.specs.declared.memory.Failure.{Failure}
+use Rattle.cedar_data.specs.declared.memory.Failure.TheVariants as failures
 use Rattle.cedar_convert_warnings.specs.declared.warnings.SchemaWarning.{SchemaWarning}
 use Rattle.cedar_names.specs.Extensions.{extension_words}
 use Rattle.cedar_names.specs.declared.extensions.Extensions.{Extensions}
+use Rattle.cedar_phases.specs.SchemaViews.{IsNamed, schema_in}
 use Rattle.cedar_resolved.specs.declared.schema.ValidatorSchema.{ValidatorSchema}
-use Rattle.cedar_schema.specs.Texts.{IsWellFormed, TextCause}
+use Rattle.cedar_schema.specs.Texts.{DenotesSchema, IsWellFormed, TextCause}
 use Rattle.cedar_schema_errors.specs.declared.schema_error.CedarSchemaError.{CedarSchemaError}
 use Rattle.cedar_streams.proofs.Known.{GivesAll-is, GivesMoreThan-had}
-use Rattle.cedar_schema_tool.specs.Answering.{Sunk, Lists, Rejects, AnswersText, AnswersBytes, AcceptsText}
+use Rattle.cedar_schema_tool.specs.Answering.{Sunk, Lists, Rejects, AnswersMade, AnswersText, AnswersBytes, AcceptsText}
 use Rattle.cedar_schema_tool.specs.Asking.{AskFor}
 use Rattle.cedar_schema_tool.specs.CommandLine.{AreNamed, Asks}
 use Rattle.cedar_schema_tool.specs.Running.{Streams, Reads, ReadTooMuch, Runs, Accepts, Refuses, IsSchemaOf, AreAsking, AcceptsWellFormed, IsAcceptance, longest_text}
@@ -48,6 +52,27 @@ rejects-answers text extensions error out err err' Usage s r = absurd r
 rejects-answers text extensions error out err err' ReadFault s r = absurd r
 rejects-answers text extensions error out err err' NotUtf8 s r = absurd r
 rejects-answers text extensions error out err err' TooLong s r = absurd r
+
+-- what was made of a text is answered as the text
+module _ {T : Type 0} (schema_of : T → ValidatorSchema) (warnings_of : T → List SchemaWarning) (text : List ℕ) (extensions : List (List ℕ)) where
+  pub made-answers : (made : Result T (Failure CedarSchemaError)) (out out' err err' : Sunk) (status : Status)
+      → IfOk made (λ m. DenotesSchema text extensions (schema_in (schema_of m)) (warnings_of m)) → IfOk made (λ m. IsNamed (schema_of m))
+      → results.IfRefused made (TextCause text extensions) → AnswersMade schema_of warnings_of made out out' err err' status
+      → AnswersText text extensions out out' err err' status
+  made-answers (Ok m) out out' err err' status denotes named r a =
+      subst (λ (e : Sunk). AnswersText text extensions out out' err e status) (sym a.1)
+      (lists-answers text extensions (schema_of m) (warnings_of m) out out' err status (record { denotes = denotes; named = named }) a.0)
+  made-answers (Err (failures.Refused error)) out out' err err' status denotes named r a =
+      subst (λ (o : Sunk). AnswersText text extensions out o err err' status) (sym a.1) (rejects-answers text extensions error out err err' status r a.0)
+  made-answers (Err failures.NoMemory) out out' err err' status denotes named r a =
+      subst (λ (s : Status). AnswersText text extensions out out' err err' s) (sym a.0) (a.1, a.2)
+
+  pub made-accepts : (made : Result T (Failure CedarSchemaError)) (out out' err err' : Sunk) (status : Status) (Gives : Fragment → List SchemaWarning → T → Type 0)
+      → ((F : Fragment) (warnings : List SchemaWarning) → IsWellFormed text extensions F warnings → results.Accepts (Gives F warnings) made)
+      → AnswersMade schema_of warnings_of made out out' err err' status → AcceptsText text extensions status
+  made-accepts (Ok m) out out' err err' status Gives given a utf8 F warnings formed = lists-accepts (schema_of m) (warnings_of m) out out' status a.0
+  made-accepts (Err (failures.Refused error)) out out' err err' status Gives given a utf8 F warnings formed = absurd (given F warnings formed)
+  made-accepts (Err failures.NoMemory) out out' err err' status Gives given a utf8 F warnings formed = subst IsAcceptance (sym a.0) tt
 
 -- the answer to bytes that are a text
 pub text-answers : (bytes text : List ℕ) (extensions : List (List ℕ)) (out out' err err' : Sunk) (status : Status) → text ≡ bytes → IsUtf8 bytes

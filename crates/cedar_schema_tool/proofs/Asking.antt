@@ -42,7 +42,7 @@ known-by names extensions ascends same = record {
 
 available-ascends : IsStrictlySortedBy word_cmp available
 unfolding IsStrictlySortedBy
-available-ascends = ((refl, refl, refl, tt), (refl, refl, tt), (refl, tt), tt, tt)
+available-ascends = ((refl, (refl, (refl, tt))), ((refl, (refl, tt)), ((refl, tt), (tt, tt))))
 
 none-ascends : IsStrictlySortedBy word_cmp []
 unfolding IsStrictlySortedBy

@@ -1,10 +1,12 @@
 -- SPDX-License-Identifier: Apache-2.0
 -- What answering the bytes that were read does to the sinks, by the status.
-use Rattle.std.specs.Prelude.{◌≡◌, ◌⊎◌, ℕ, List, Option, IsUtf8}
+use Rattle.std.specs.Prelude.{◌≡◌, ◌⊎◌, ℕ, List, Option, Result, Ok, Err, IsUtf8}
 use Rattle.cedar_streams.specs.Bytes.{Takes, TakesFront}
 use Rattle.cedar_streams.specs.Faults.{Rose}
 use Rattle.cedar_convert_fragment.specs.Fragments.{Fragment}
 use Rattle.cedar_convert_warnings.specs.declared.warnings.SchemaWarning.{SchemaWarning}
+use Rattle.cedar_data.specs.declared.memory.Failure.{Failure}
+use Rattle.cedar_data.specs.declared.memory.Failure.TheVariants as failures
 use Rattle.cedar_listing.specs.Listing.{listing}
 use Rattle.cedar_resolved.specs.declared.schema.ValidatorSchema.{ValidatorSchema}
 use Rattle.cedar_schema.specs.Texts.{IsWellFormed, TextCause}
@@ -40,6 +42,13 @@ Rejects error before after Usage = ⊥
 Rejects error before after ReadFault = ⊥
 Rejects error before after NotUtf8 = ⊥
 Rejects error before after TooLong = ⊥
+
+-- answering what was made of a text: the listing of the schema with its warnings, or the refusal; of want of memory nothing is written
+abbrev pub AnswersMade : {T : Type 0} → (T → ValidatorSchema) → (T → List SchemaWarning) → Result T (Failure CedarSchemaError)
+    → Sunk → Sunk → Sunk → Sunk → Status → Type 0
+AnswersMade schema_of warnings_of (Ok made) out out' err err' status = Lists (schema_of made) (warnings_of made) out out' status × (err' ≡ err)
+AnswersMade schema_of warnings_of (Err (failures.Refused error)) out out' err err' status = Rejects error err err' status × (out' ≡ out)
+AnswersMade schema_of warnings_of (Err failures.NoMemory) out out' err err' status = (status ≡ NoMemory) × (out' ≡ out) × (err' ≡ err)
 
 -- answering a text, with what is known of `out` and of `err` before and after
 abbrev pub AnswersText : List ℕ → List (List ℕ) → Sunk → Sunk → Sunk → Sunk → Status → Type 0
