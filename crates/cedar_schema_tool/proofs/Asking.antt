@@ -5,14 +5,20 @@ use Rattle.std.specs.String.{string_bytes}
 use Rattle.std.proofs.lemmas.List.{length-map}
 use Rattle.std.proofs.lemmas.Slice.Eq.{bytes_eq-Decides}
 use Rattle.std.proofs.lemmas.List.Concat.{flat_map-append}
+use Rattle.std.specs.BTreeMap.{is_at}
+use Rattle.std.specs.Cmp.Lexicographic.{texts_ties}
+use Rattle.std.specs.List.Sorted.{IsStrictlySortedBy}
+use Rattle.cedar_data.proofs.Exact.{texts_exact, one_set}
+use Rattle.cedar_data.specs.Sets.{contains}
 use Rattle.cedar_names.specs.ExtensionFaults.{extensions_fault}
 use Rattle.cedar_names.specs.Extensions.{extension_words}
+use Rattle.cedar_names.specs.Order.{word_cmp}
 use Rattle.cedar_text.specs.Words.{has_word}
 use Rattle.cedar_names.specs.declared.extensions.Extensions.{Extensions}
 use Rattle.cedar_names.specs.declared.extensions.ExtensionsFault.{ExtensionsFault}
 use Rattle.cedar_streams.proofs.InLoop.{item_at}
 use Rattle.cedar_schema_tool.specs.Asking.{AskFor, Found, FoundNamed, FoundOptions, AsksNamed, AsksOptions}
-use Rattle.cedar_schema_tool.specs.CommandLine.{Asks, available, ext_words}
+use Rattle.cedar_schema_tool.specs.CommandLine.{AreNamed, Asks, available, ext_words}
 
 not_false : (t : Bool) → not t ≡ false → t ≡ true
 not_false true e = refl
@@ -21,6 +27,34 @@ not_false false e = absurd cc
 not_true : (t : Bool) → not t ≡ true → t ≡ true → ⊥
 not_true true e f = cc
 not_true false e f = cc
+
+-- the extension types of some names
+
+contains-word : (words : List (List ℕ)) (w : List ℕ) → contains word_cmp words w ≡ has_word words w
+contains-word [] w = refl
+contains-word (a ∷ words) w = let same : is_at (word_cmp w) a ≡ bytes_eq w a = sym (texts_ties w a) in rw (same, contains-word words w) refl
+
+known-by : (names extensions : List (List ℕ)) → IsStrictlySortedBy word_cmp extensions → ((w : List ℕ) → has_word extensions w ≡ has_word names w) → AreNamed names extensions
+known-by names extensions ascends same = record {
+  ascends = ascends;
+  members = λ w. let e : contains word_cmp extensions w ≡ has_word names w = contains-word extensions w ∙ same w in (λ h. sym e ∙ h, λ h. e ∙ h);
+}
+
+available-ascends : IsStrictlySortedBy word_cmp available
+unfolding IsStrictlySortedBy
+available-ascends = ((refl, (refl, (refl, tt))), ((refl, (refl, tt)), ((refl, tt), (tt, tt))))
+
+none-ascends : IsStrictlySortedBy word_cmp []
+unfolding IsStrictlySortedBy
+none-ascends = tt
+
+-- names that are in order
+known-itself : (names extensions : List (List ℕ)) → IsStrictlySortedBy word_cmp names → extensions ≡ names → AreNamed names extensions
+known-itself names extensions ascends is = subst (AreNamed names) (sym is) (known-by names names ascends (λ w. refl))
+
+-- they are one list
+pub one-known : (names xs ys : List (List ℕ)) → AreNamed names xs → AreNamed names ys → xs ≡ ys
+one-known names xs ys s t = one_set texts_exact _ xs ys s t
 
 -- what tests on texts say
 
@@ -94,8 +128,8 @@ pub named-unread : (words : List (List ℕ)) → ((names : List (List ℕ)) → 
 named-unread words unread names a = unread names a.0
 
 pub named-found : (words names : List (List ℕ)) (x : Extensions) → words ≡ ext_words names → extensions_fault [] names ≡ None
-    → ((w : List ℕ) → has_word (extension_words x) w ≡ has_word names w) → AskFor (AsksNamed words) x
-named-found words names x e good same = (names, (e, good), same)
+    → IsStrictlySortedBy word_cmp (extension_words x) → ((w : List ℕ) → has_word (extension_words x) w ≡ has_word names w) → AskFor (AsksNamed words) x
+named-found words names x e good ascends same = (names, (e, good), known-by names (extension_words x) ascends same)
 
 -- the words behind `resolve`
 
@@ -109,10 +143,10 @@ no_option [] few = refl
 no_option (o ∷ os) few = absurd (omega arith)
 
 pub options-none : (options : List (List ℕ)) (x : Extensions) → options ≡ [] → extension_words x ≡ available → AskFor (AsksOptions options) x
-options-none options x e is = (available, inl (ap (λ o. codes "resolve" ∷ o) e, refl), λ w. ap (λ ws. has_word ws w) is)
+options-none options x e is = (available, inl (ap (λ o. codes "resolve" ∷ o) e, refl), known-itself available (extension_words x) available-ascends is)
 
 pub options-ext_none : (options : List (List ℕ)) (option : List ℕ) (x : Extensions) → options ≡ option ∷ [] → option ≡ codes "--ext-none" → extension_words x ≡ [] → AskFor (AsksOptions options) x
-options-ext_none options option x e o is = ([], inr (inl (ap (λ r. codes "resolve" ∷ r) (e ∙ ap (λ n. n ∷ []) o), refl)), λ w. ap (λ ws. has_word ws w) is)
+options-ext_none options option x e o is = ([], inr (inl (ap (λ r. codes "resolve" ∷ r) (e ∙ ap (λ n. n ∷ []) o), refl)), known-itself [] (extension_words x) none-ascends is)
 
 pub options-other : (options : List (List ℕ)) (option : List ℕ) → options ≡ option ∷ [] → (option ≡ codes "--ext-none" → ⊥) → (names : List (List ℕ)) → AsksOptions options names → ⊥
 options-other options option e other names (inl a) = let p : codes "resolve" ∷ options ≡ codes "resolve" ∷ [] = a.0 in cc

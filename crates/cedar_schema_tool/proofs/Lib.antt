@@ -1,5 +1,3 @@
 -- SPDX-License-Identifier: Apache-2.0
 pub mod Answering
 pub mod Asking
-pub mod Depths
-pub mod TypeTexts

@@ -3,13 +3,12 @@
 use Rattle.std.specs.Prelude.{◌≡◌, ℕ, List, [], ◌∷◌, Option, None, MatchOption, codes}
 use Rattle.cedar_names.specs.ExtensionFaults.{extensions_fault}
 use Rattle.cedar_names.specs.Extensions.{extension_words}
-use Rattle.cedar_text.specs.Words.{has_word}
 use Rattle.cedar_names.specs.declared.extensions.Extensions.{Extensions}
-use Rattle.cedar_schema_tool.specs.CommandLine.{Asks, ext_words}
+use Rattle.cedar_schema_tool.specs.CommandLine.{AreNamed, Asks, ext_words}
 
 -- some names that the words ask for are those of the extension types
 abbrev pub AskFor : (List (List ℕ) → Type 0) → Extensions → Type 0
-AskFor asks x = (names : List (List ℕ)) × asks names × ((w : List ℕ) → has_word (extension_words x) w ≡ has_word names w)
+AskFor asks x = (names : List (List ℕ)) × asks names × AreNamed names (extension_words x)
 
 -- the extension types that are asked for, or that none are
 abbrev pub FoundBy : (List (List ℕ) → Type 0) → Option Extensions → Type 0

@@ -2,8 +2,6 @@
 pub mod Answering
 pub mod Asking
 pub mod CommandLine
-pub mod Listing
 pub mod Refusal
-pub mod Rows
 pub mod Running
 pub mod Statuses

@@ -1,8 +1,8 @@
 -- SPDX-License-Identifier: Apache-2.0
 -- What is printed of a refusal.
 use Rattle.std.specs.Prelude.{ℕ, List, [], ◌++◌, Option, None, Some, codes}
-use Rattle.cedar_validator.specs.Texts.{error_text, help_text}
-use Rattle.cedar_validator.specs.declared.errors.CedarSchemaError.{CedarSchemaError}
+use Rattle.cedar_schema_errors.specs.ErrorTexts.{error_help, error_text}
+use Rattle.cedar_schema_errors.specs.declared.schema_error.CedarSchemaError.{CedarSchemaError}
 
 -- the line of the help, where there is help
 abbrev pub help_line : Option (List ℕ) → List ℕ
@@ -11,4 +11,4 @@ help_line (Some help) = codes "help: " ++ help ++ codes "\n"
 
 -- the lines of an error
 abbrev pub refusal_text : CedarSchemaError → List ℕ
-refusal_text error = codes "error: " ++ error_text error ++ codes "\n" ++ help_line (help_text error)
+refusal_text error = codes "error: " ++ error_text error ++ codes "\n" ++ help_line (error_help error)

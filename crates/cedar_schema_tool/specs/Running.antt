@@ -1,16 +1,16 @@
 -- SPDX-License-Identifier: Apache-2.0
 -- What a run of the program did, by its status.
 use Rattle.std.specs.Prelude.{◌≡◌, ◌⊎◌, ◌≤◌, ℕ, List, length, Option, Some, IsUtf8}
-use Rattle.cedar_text.specs.Words.{has_word}
 use Rattle.cedar_streams.specs.Bytes.{GivesAll, GivesAtMost, GivesMoreThan, Takes, TakesFront}
 use Rattle.cedar_streams.specs.Faults.{Rose}
-use Rattle.cedar_plain.specs.Plain.{DeclTree}
-use Rattle.cedar_validator.specs.Denotes.{Denotes}
-use Rattle.cedar_validator.specs.WellFormed.{IsWellFormed, Cause}
-use Rattle.cedar_validator.specs.declared.errors.CedarSchemaError.{CedarSchemaError}
-use Rattle.cedar_validator.specs.declared.schema.ValidatorSchema.{ValidatorSchema}
-use Rattle.cedar_schema_tool.specs.CommandLine.{Asks}
-use Rattle.cedar_schema_tool.specs.Listing.{listing}
+use Rattle.cedar_convert_fragment.specs.Fragments.{Fragment}
+use Rattle.cedar_convert_warnings.specs.declared.warnings.SchemaWarning.{SchemaWarning}
+use Rattle.cedar_listing.specs.Listing.{listing}
+use Rattle.cedar_phases.specs.SchemaViews.{IsNamed, schema_in}
+use Rattle.cedar_resolved.specs.declared.schema.ValidatorSchema.{ValidatorSchema}
+use Rattle.cedar_schema.specs.Texts.{DenotesSchema, IsWellFormed, TextCause}
+use Rattle.cedar_schema_errors.specs.declared.schema_error.CedarSchemaError.{CedarSchemaError}
+use Rattle.cedar_schema_tool.specs.CommandLine.{AreNamed, Asks}
 use Rattle.cedar_schema_tool.specs.Refusal.{refusal_text}
 use Rattle.cedar_schema_tool.specs.declared.status.Status.{Status}
 use Rattle.cedar_schema_tool.specs.declared.status.Status.TheVariants.{Done, Refused, Usage, ReadFault, WriteFault, NotUtf8, TooLong, NoMemory}
@@ -49,16 +49,22 @@ FailedReading before after = GivesAtMost longest_text before.left after.left × 
 abbrev pub ReadTooMuch : Streams → Streams → Type 0
 ReadTooMuch before after = GivesMoreThan longest_text before.left after.left × (after.read_faults ≡ before.read_faults)
 
--- the text that was read is well formed and denotes this schema
-pub record Accepts (words : List (List ℕ)) (before after : Streams) (schema : ValidatorSchema) : Type 0 where
+-- with these extension types the text is well formed and denotes this schema, whose entity types and actions stand under their own
+-- names, with these warnings
+pub record IsSchemaOf (text : List ℕ) (extensions : List (List ℕ)) (schema : ValidatorSchema) (warnings : List SchemaWarning) : Type 0 where
+  pub denotes : DenotesSchema text extensions (schema_in schema) warnings
+  pub named : IsNamed schema
+
+-- the text that was read is well formed and denotes this schema, with these warnings
+pub record Accepts (words : List (List ℕ)) (before after : Streams) (schema : ValidatorSchema) (warnings : List SchemaWarning) : Type 0 where
   pub names : List (List ℕ)
   pub asks : Asks words names
   pub text : List ℕ
   pub reads : Reads before after text
   pub utf8 : IsUtf8 text
-  pub declarations : List DeclTree
-  pub well_formed : IsWellFormed text (has_word names) declarations
-  pub denotes : Denotes declarations schema
+  pub extensions : List (List ℕ)
+  pub known : AreNamed names extensions
+  pub schema_is : IsSchemaOf text extensions schema warnings
 
 -- the cause of this error stands in the text that was read
 pub record Refuses (words : List (List ℕ)) (before after : Streams) (error : CedarSchemaError) : Type 0 where
@@ -67,7 +73,9 @@ pub record Refuses (words : List (List ℕ)) (before after : Streams) (error : C
   pub text : List ℕ
   pub reads : Reads before after text
   pub utf8 : IsUtf8 text
-  pub cause : Cause text (has_word names) error
+  pub extensions : List (List ℕ)
+  pub known : AreNamed names extensions
+  pub cause : TextCause text extensions error
 
 -- the words ask for something
 abbrev pub AreAsking : List (List ℕ) → Type 0
@@ -88,12 +96,14 @@ Runs words before after NoMemory = SameOut before after × SameErr before after
 -- the text is refused, and the refusal stands on `err`
 Runs words before after Refused =
     (error : CedarSchemaError) × Refuses words before after error × Takes before.err after.err (refusal_text error) × SameOut before after
--- the text is well formed, and the listing of the schema that it denotes stands on `out`
+-- the text is well formed, and the listing of the schema that it denotes and of its warnings stands on `out`
 Runs words before after Done =
-    (schema : ValidatorSchema) × Accepts words before after schema × Takes before.out after.out (listing schema) × SameErr before after
+    (schema : ValidatorSchema) × (warnings : List SchemaWarning) × Accepts words before after schema warnings
+    × Takes before.out after.out (listing schema warnings) × SameErr before after
 -- the sink of the due text failed, and took a front of it
 Runs words before after WriteFault =
-    ((schema : ValidatorSchema) × Accepts words before after schema × TakesFront before.out after.out (listing schema) × Rose before.out_faults after.out_faults × SameErr before after)
+    ((schema : ValidatorSchema) × (warnings : List SchemaWarning) × Accepts words before after schema warnings
+    × TakesFront before.out after.out (listing schema warnings) × Rose before.out_faults after.out_faults × SameErr before after)
     ⊎ ((error : CedarSchemaError) × Refuses words before after error × TakesFront before.err after.err (refusal_text error) × Rose before.err_faults after.err_faults × SameOut before after)
 
 -- a status that a well formed text may have: it is accepted, or memory or a stream failed
@@ -110,4 +120,6 @@ IsAcceptance TooLong = ⊥
 -- a well formed text within the limit, whatever the line of words asks, is accepted
 abbrev pub AcceptsWellFormed : List (List ℕ) → Streams → Status → Type 0
 AcceptsWellFormed words before status =
-    (names : List (List ℕ)) (input : List ℕ) (ds : List DeclTree) → Asks words names → before.left ≡ Some input → length input ≤ longest_text → IsUtf8 input → IsWellFormed input (has_word names) ds → IsAcceptance status
+    (names extensions : List (List ℕ)) (input : List ℕ) (F : Fragment) (warnings : List SchemaWarning)
+    → Asks words names → AreNamed names extensions → before.left ≡ Some input → length input ≤ longest_text → IsUtf8 input
+    → IsWellFormed input extensions F warnings → IsAcceptance status

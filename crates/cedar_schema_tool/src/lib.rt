@@ -3,22 +3,17 @@
 #![tactic(auto)]
 
 mod command_line;
-mod listing;
-mod lists;
-mod names;
 mod process;
-mod quoting;
 mod refusal;
 mod running;
 mod status;
-mod type_text;
 
+pub use cedar_listing::write_listing;
 pub use cedar_streams::{
     MemSink, MemSource, ReadStop, Reader, Sink, SinkFailed, Source, SourceFailed, StdSink,
     StdSource, SureSource, Writer, read_all, write_all, write_str,
 };
 pub use command_line::asked;
-pub use listing::write_listing;
 pub use process::run_process;
 pub use running::{LONGEST_TEXT, run};
 pub use status::Status;

@@ -4,7 +4,7 @@ ghost use Rattle.std.specs.String.{string_bytes};
 ghost use Rattle.cedar_schema_tool.specs.Refusal.{refusal_text};
 
 use cedar_data::Mem;
-use cedar_validator::CedarSchemaError;
+use cedar_schema_errors::CedarSchemaError;
 use std::alloc::Global;
 
 /// The lines that are printed of an error: the error, and then the help where there is help.

@@ -2,20 +2,21 @@
 ghost use Rattle.std.specs.Prelude.{◌≡◌, ℕ, List, map, IfOk};
 ghost use Rattle.std.specs.String.{string_bytes};
 ghost use Rattle.cedar_names.specs.Extensions.{extension_words};
-ghost use Rattle.cedar_text.specs.Words.{has_word};
 ghost use Rattle.cedar_streams.specs.Writes.{Writes};
-ghost use Rattle.cedar_schema_tool.specs.Answering.{Lists, Rejects, AnswersBytes, AnswersText, AcceptsText};
-ghost use Rattle.cedar_schema_tool.specs.Listing.{listing};
+ghost use Rattle.cedar_schema_tool.specs.Answering.{Lists, Rejects, AnswersMade, AnswersBytes, AnswersText, AcceptsText};
 ghost use Rattle.cedar_schema_tool.specs.Running.{Runs, AcceptsWellFormed};
 
 use crate::command_line::asked;
-use crate::listing::write_listing;
 use crate::refusal::refusal_text;
 use crate::status::Status;
-use cedar_data::{Failure, NoMemory};
+use cedar_convert_warnings::SchemaWarning;
+use cedar_data::{Failure, NoMemory, Out};
+use cedar_listing::write_listing;
 use cedar_names::Extensions;
+use cedar_resolved::ValidatorSchema;
+use cedar_schema::FromCedarSchema;
+use cedar_schema_errors::CedarSchemaError;
 use cedar_streams::{ReadStop, Sink, SinkFailed, Source, read_all, write_str};
-use cedar_validator::{CedarSchemaError, ValidatorSchema};
 use std::alloc::Global;
 use std::str;
 
@@ -64,11 +65,11 @@ fn answer<K: Sink, E: Sink>(
     out: &mut K,
     err: &mut E,
 ) -> Status
-    ensures answers { AnswersBytes bytes.now (has_word (extension_words extensions.now))
+    ensures answers { AnswersBytes bytes.now (extension_words extensions.now)
         (record { bytes = K.written out.old; faults = K.faults out.old }) (record { bytes = K.written out.new; faults = K.faults out.new })
         (record { bytes = E.written err.old; faults = E.faults err.old }) (record { bytes = E.written err.new; faults = E.faults err.new })
         result }
-    ensures accepts { AcceptsText bytes.now (has_word (extension_words extensions.now)) result }
+    ensures accepts { AcceptsText bytes.now (extension_words extensions.now) result }
 {
     match str::from_utf8(bytes) {
         Ok(text) => answer_text(alloc, text, extensions, out, err),
@@ -84,24 +85,42 @@ fn answer_text<K: Sink, E: Sink>(
     out: &mut K,
     err: &mut E,
 ) -> Status
-    ensures answers { AnswersText text.now (has_word (extension_words extensions.now))
+    ensures answers { AnswersText text.now (extension_words extensions.now)
         (record { bytes = K.written out.old; faults = K.faults out.old }) (record { bytes = K.written out.new; faults = K.faults out.new })
         (record { bytes = E.written err.old; faults = E.faults err.old }) (record { bytes = E.written err.new; faults = E.faults err.new })
         result }
-    ensures accepts { AcceptsText text.now (has_word (extension_words extensions.now)) result }
+    ensures accepts { AcceptsText text.now (extension_words extensions.now) result }
 {
-    match ValidatorSchema::from_cedarschema_str(alloc, text, extensions) {
-        Ok(schema) => list(&schema, out),
-        Err(Failure::Refused(error)) => refuse(alloc, &error, err),
+    let made = ValidatorSchema::from_cedarschema_str(alloc, text, extensions);
+    let status = answer_made(alloc, &made, out, err);
+    drop(made);
+    status
+}
+
+/// Writes the listing of what was made of a text, or why it was refused. Of want of memory nothing is written.
+fn answer_made<K: Sink, E: Sink>(
+    alloc: Global,
+    made: &Out<(ValidatorSchema, Vec<SchemaWarning>), CedarSchemaError>,
+    out: &mut K,
+    err: &mut E,
+) -> Status
+    ensures { AnswersMade (λ made. made.0) (λ made. made.1.items) made.now
+        (record { bytes = K.written out.old; faults = K.faults out.old }) (record { bytes = K.written out.new; faults = K.faults out.new })
+        (record { bytes = E.written err.old; faults = E.faults err.old }) (record { bytes = E.written err.new; faults = E.faults err.new })
+        result }
+{
+    match made {
+        Ok((schema, warnings)) => list(schema, warnings.as_slice(), out),
+        Err(Failure::Refused(error)) => refuse(alloc, error, err),
         Err(Failure::NoMemory) => Status::NoMemory,
     }
 }
 
-/// Writes the listing of a schema.
-fn list<K: Sink>(schema: &ValidatorSchema, out: &mut K) -> Status
-    ensures { Lists schema.now (record { bytes = K.written out.old; faults = K.faults out.old }) (record { bytes = K.written out.new; faults = K.faults out.new }) result }
+/// Writes the listing of a schema and of its warnings.
+fn list<K: Sink>(schema: &ValidatorSchema, warnings: &[SchemaWarning], out: &mut K) -> Status
+    ensures { Lists schema.now warnings.now (record { bytes = K.written out.old; faults = K.faults out.old }) (record { bytes = K.written out.new; faults = K.faults out.new }) result }
 {
-    match write_listing(schema, out) {
+    match write_listing(schema, warnings, out) {
         Ok(()) => Status::Done,
         Err(SinkFailed) => Status::WriteFault,
     }

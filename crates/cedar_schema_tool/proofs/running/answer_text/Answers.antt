@@ -1,10 +1,14 @@
 -- SPDX-License-Identifier: Apache-2.0
 use Rattle.cedar_names.specs.Extensions.{extension_words}
-use Rattle.cedar_text.specs.Words.{has_word}
-use Rattle.cedar_schema_tool.proofs.Answering.{rejects-answers}
+use Rattle.cedar_schema_tool.proofs.Answering.{made-answers, made-accepts}
 use Rattle.cedar_schema_tool.proofs.running.answer_text.Goals as goal
 
-pub returns-in-Err-Refused-clause-answers : goal.returns-in-Err-Refused-clause-answers
-returns-in-Err-Refused-clause-answers g c =
-    rejects-answers c.args.text.now (has_word (extension_words c.args.extensions.now)) c.in-Err-Refused.error _ _ _ c.refuse.result
-    (rw c.in-Err-Refused.field-0-is at c.in-Err-Refused.ensures.answers) c.refuse.ensures
+pub returns-clause-answers : goal.returns-clause-answers
+returns-clause-answers g c =
+    made-answers _ _ c.args.text.now (extension_words c.args.extensions.now) c.from_cedarschema_str-made.result _ _ _ _ c.answer_made-status.result
+    c.from_cedarschema_str-made.ensures.denotes c.from_cedarschema_str-made.ensures.named c.from_cedarschema_str-made.ensures.refused c.answer_made-status.ensures
+
+pub returns-clause-accepts : goal.returns-clause-accepts
+returns-clause-accepts g c =
+    made-accepts _ _ c.args.text.now (extension_words c.args.extensions.now) c.from_cedarschema_str-made.result _ _ _ _ c.answer_made-status.result _
+    c.from_cedarschema_str-made.ensures.accepts c.answer_made-status.ensures

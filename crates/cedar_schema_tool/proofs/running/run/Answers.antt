@@ -10,7 +10,7 @@ pub returns-in-Ok-None-clause-runs : goal.returns-in-Ok-None-clause-runs
 returns-in-Ok-None-clause-runs g c = (λ a. (rw c.in-Ok-None.field-0-is at c.in-Ok-None.ensures) a.0 a.1, refl)
 
 pub returns-in-Ok-None-clause-accepts : goal.returns-in-Ok-None-clause-accepts
-returns-in-Ok-None-clause-accepts g c = λ names input ds asks left within utf8 formed. (rw c.in-Ok-None.field-0-is at c.in-Ok-None.ensures) names asks
+returns-in-Ok-None-clause-accepts g c = λ names extensions input F warnings asks known left within utf8 formed. (rw c.in-Ok-None.field-0-is at c.in-Ok-None.ensures) names asks
 
 pub returns-in-Ok-clause-runs : goal.returns-in-Ok-clause-runs
 returns-in-Ok-clause-runs g c =

@@ -1,0 +1,12 @@
+-- SPDX-License-Identifier: Apache-2.0
+use Rattle.cedar_streams.proofs.InOrder.{in_order}
+use Rattle.cedar_listing.proofs.listing.write_action_line.Goals as goal
+
+pub returns-in_err-write_str-2 : goal.returns-in_err-write_str-2
+returns-in_err-write_str-2 g c = search (in_order, c.in_ok-write_str.ensures, c.in_ok-write_uid.ensures, c.in_err-write_str-2.ensures) depth 16
+
+pub returns-in_err-write_list : goal.returns-in_err-write_list
+returns-in_err-write_list g c = search (in_order, c.in_ok-write_str.ensures, c.in_ok-write_uid.ensures, c.in_ok-write_str-2.ensures, c.in_err-write_list.ensures) depth 16
+
+pub returns : goal.returns
+returns g c = search (in_order, c.in_ok-write_str.ensures, c.in_ok-write_uid.ensures, c.in_ok-write_str-2.ensures, c.in_ok-write_list.ensures, c.write_applies.ensures) depth 16
