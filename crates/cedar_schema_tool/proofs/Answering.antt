@@ -1,6 +1,6 @@
 -- SPDX-License-Identifier: Apache-2.0
 -- From what was read and how it was answered to what the run did.
-use Rattle.std.proofs.Common.{◌≡◌, ℕ, ◌<◌, List, length, Result, Ok, Err, IfOk, inl, inr, refl, ap, sym, ◌∙◌, subst, arith, IsUtf8}
+use Rattle.std.proofs.Common.{◌≡◌, ℕ, ◌<◌, List, length, Result, Ok, Err, IfOk, inl, inr, refl, ap, sym, subst, arith, IsUtf8}
 use Rattle.cedar_convert_fragment.specs.Fragments.{Fragment}
 use Rattle.cedar_data.specs.Answers as results
 use Rattle.cedar_data.specs.declared.memory.Failure.{Failure}
