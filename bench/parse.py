@@ -6,9 +6,9 @@
 
 PROGRAM is a built program; without it, the one that the script `joistginger` at
 the top builds. Each form is made twice, of about 400 KiB and of at most 4 MiB;
-each row is the best of three runs of `resolve`. A form that isn't resolved yet
-is refused as soon as the text is parsed, so that its time is that of reading the
-text, its tokens and its tree. The cost of a byte is that of the long text, a byte of
+each row is the best of three runs of `resolve`. Most texts refer to names that they
+don't declare, and are refused for that, so that the time is that of reading the text,
+its tokens, tree and fragment, and of the search for what is missing. The cost of a byte is that of the long text, a byte of
 the short one being 1. Where JOISTGINGER_PEER names another program, each row has its
 time on the long text too, which is that of resolving it as well.
 """
