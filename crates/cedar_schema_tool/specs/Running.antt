@@ -3,17 +3,15 @@
 use Rattle.std.specs.Prelude.{◌≡◌, ◌⊎◌, ◌≤◌, ℕ, List, length, Option, Some, IsUtf8}
 use Rattle.cedar_streams.specs.Bytes.{GivesAll, GivesAtMost, GivesMoreThan, Takes, TakesFront}
 use Rattle.cedar_streams.specs.Faults.{Rose}
-use Rattle.cedar_convert_fragment.specs.Fragments.{Fragment}
-use Rattle.cedar_convert_warnings.specs.declared.warnings.SchemaWarning.{SchemaWarning}
-use Rattle.cedar_listing.specs.Listing.{listing}
-use Rattle.cedar_phases.specs.SchemaViews.{IsNamed, schema_in}
-use Rattle.cedar_resolved.specs.declared.schema.ValidatorSchema.{ValidatorSchema}
-use Rattle.cedar_schema.specs.Texts.{DenotesSchema, IsWellFormed, TextCause}
-use Rattle.cedar_schema_errors.specs.declared.schema_error.CedarSchemaError.{CedarSchemaError}
-use Rattle.cedar_schema_tool.specs.CommandLine.{AreNamed, Asks}
-use Rattle.cedar_schema_tool.specs.Refusal.{refusal_text}
-use Rattle.cedar_schema_tool.specs.declared.status.Status.{Status}
-use Rattle.cedar_schema_tool.specs.declared.status.Status.TheVariants.{Done, Refused, Usage, ReadFault, WriteFault, NotUtf8, TooLong, NoMemory}
+use Rattle.cedar_answers.specs.Answers.{IsAcceptance}
+use Rattle.cedar_answers.specs.Making as making
+use Rattle.cedar_answers.specs.Making.{Makes, Tells}
+use Rattle.cedar_commands.specs.CommandLine.{AreNamed, Asks}
+use Rattle.cedar_commands.specs.declared.command.Command.{Command}
+use Rattle.cedar_commands.specs.declared.command.Command.TheVariants.{Resolve, ResolveJson, Check, ToJson, ToCedar, Bench}
+use Rattle.cedar_commands.specs.declared.status.Status.{Status}
+use Rattle.cedar_commands.specs.declared.status.Status.TheVariants.{Done, Refused, Usage, ReadFault, WriteFault, NotUtf8, TooLong, NoMemory}
+use Rattle.cedar_generator.specs.Generated.{generated}
 
 -- what is known of the three streams: the bytes that the source has left, those that the sinks have taken, and how often each failed
 pub record Streams : Type 0 where
@@ -28,6 +26,8 @@ pub record Streams : Type 0 where
 abbrev pub longest_text : ℕ
 longest_text = 4194304
 
+-- ---- reading
+
 -- nothing was written to `out`
 abbrev pub SameOut : Streams → Streams → Type 0
 SameOut before after = (after.out ≡ before.out) × (after.out_faults ≡ before.out_faults)
@@ -35,6 +35,10 @@ SameOut before after = (after.out ≡ before.out) × (after.out_faults ≡ befor
 -- nothing was written to `err`
 abbrev pub SameErr : Streams → Streams → Type 0
 SameErr before after = (after.err ≡ before.err) × (after.err_faults ≡ before.err_faults)
+
+-- nothing was read
+abbrev pub SameSource : Streams → Streams → Type 0
+SameSource before after = (after.left ≡ before.left) × (after.read_faults ≡ before.read_faults)
 
 -- all that the source had left was read, it was this text, and no read failed
 pub record Reads (before after : Streams) (text : List ℕ) : Type 0 where
@@ -49,77 +53,96 @@ FailedReading before after = GivesAtMost longest_text before.left after.left × 
 abbrev pub ReadTooMuch : Streams → Streams → Type 0
 ReadTooMuch before after = GivesMoreThan longest_text before.left after.left × (after.read_faults ≡ before.read_faults)
 
--- with these extension types the text is well formed and denotes this schema, whose entity types and actions stand under their own
--- names, with these warnings
-pub record IsSchemaOf (text : List ℕ) (extensions : List (List ℕ)) (schema : ValidatorSchema) (warnings : List SchemaWarning) : Type 0 where
-  pub denotes : DenotesSchema text extensions (schema_in schema) warnings
-  pub named : IsNamed schema
+-- the source was read to its end, and what it gave is this text
+abbrev pub ReadsText : Streams → Streams → List ℕ → Type 0
+ReadsText before after text = Reads before after text × IsUtf8 text
 
--- the text that was read is well formed and denotes this schema, with these warnings
-pub record Accepts (words : List (List ℕ)) (before after : Streams) (schema : ValidatorSchema) (warnings : List SchemaWarning) : Type 0 where
-  pub names : List (List ℕ)
-  pub asks : Asks words names
-  pub text : List ℕ
-  pub reads : Reads before after text
-  pub utf8 : IsUtf8 text
-  pub extensions : List (List ℕ)
-  pub known : AreNamed names extensions
-  pub schema_is : IsSchemaOf text extensions schema warnings
+-- nothing was read, and the text is the generated one of this size
+abbrev pub MadeUp : ℕ → Streams → Streams → List ℕ → Type 0
+MadeUp n before after text = SameSource before after × (text ≡ generated n)
 
--- the cause of this error stands in the text that was read
-pub record Refuses (words : List (List ℕ)) (before after : Streams) (error : CedarSchemaError) : Type 0 where
-  pub names : List (List ℕ)
-  pub asks : Asks words names
-  pub text : List ℕ
-  pub reads : Reads before after text
-  pub utf8 : IsUtf8 text
-  pub extensions : List (List ℕ)
-  pub known : AreNamed names extensions
-  pub cause : TextCause text extensions error
+-- the text that a command works on: the one that is read, but for `bench` a generated one
+abbrev pub WorksOn : Command → Streams → Streams → List ℕ → Type 0
+WorksOn Resolve before after text = ReadsText before after text
+WorksOn ResolveJson before after text = ReadsText before after text
+WorksOn Check before after text = ReadsText before after text
+WorksOn ToJson before after text = ReadsText before after text
+WorksOn ToCedar before after text = ReadsText before after text
+WorksOn (Bench n) before after text = MadeUp n before after text
+
+-- the command reads
+abbrev pub IsReading : Command → Type 0
+IsReading Resolve = Unit {0}
+IsReading ResolveJson = Unit {0}
+IsReading Check = Unit {0}
+IsReading ToJson = Unit {0}
+IsReading ToCedar = Unit {0}
+IsReading (Bench n) = ⊥
+
+-- ---- what the words ask for
 
 -- the words ask for something
 abbrev pub AreAsking : List (List ℕ) → Type 0
-AreAsking words = (names : List (List ℕ)) × Asks words names
+AreAsking words = (command : Command) × (names : List (List ℕ)) × Asks words command names
+
+-- the words ask for something for which the source is read
+abbrev pub AskToRead : List (List ℕ) → Type 0
+AskToRead words = (command : Command) × (names : List (List ℕ)) × Asks words command names × IsReading command
+
+-- the words ask for a command on a text, with these extension types
+pub record Works (words : List (List ℕ)) (before after : Streams) (command : Command) (text : List ℕ) (extensions : List (List ℕ)) : Type 0 where
+  pub names : List (List ℕ)
+  pub asks : Asks words command names
+  pub known : AreNamed names extensions
+  pub on : WorksOn command before after text
+
+-- this text is due: it is what the command that the words ask for makes of its text
+abbrev pub IsDue : List (List ℕ) → Streams → Streams → List ℕ → Type 0
+IsDue words before after due =
+    (command : Command) × (text : List ℕ) × (extensions : List (List ℕ)) × Works words before after command text extensions × Makes command text extensions due
+
+-- this refusal is due: it tells why the command that the words ask for refuses its text
+abbrev pub IsTold : List (List ℕ) → Streams → Streams → List ℕ → Type 0
+IsTold words before after told =
+    (command : Command) × (text : List ℕ) × (extensions : List (List ℕ)) × Works words before after command text extensions × Tells command text extensions told
+
+-- ---- the run
 
 -- what a run did, by its status
 abbrev pub Runs : List (List ℕ) → Streams → Streams → Status → Type 0
 -- the words ask for nothing, and nothing was read or written
 Runs words before after Usage = (AreAsking words → ⊥) × (after ≡ before)
 -- reading failed
-Runs words before after ReadFault = AreAsking words × FailedReading before after × SameOut before after × SameErr before after
+Runs words before after ReadFault = AskToRead words × FailedReading before after × SameOut before after × SameErr before after
 -- too much was read
-Runs words before after TooLong = AreAsking words × ReadTooMuch before after × SameOut before after × SameErr before after
+Runs words before after TooLong = AskToRead words × ReadTooMuch before after × SameOut before after × SameErr before after
 -- the bytes that were read are no UTF-8
-Runs words before after NotUtf8 = AreAsking words × (bytes : List ℕ) × Reads before after bytes × (IsUtf8 bytes → ⊥) × SameOut before after × SameErr before after
+Runs words before after NotUtf8 = AskToRead words × (bytes : List ℕ) × Reads before after bytes × (IsUtf8 bytes → ⊥) × SameOut before after × SameErr before after
 -- want of memory
 Runs words before after NoMemory = SameOut before after × SameErr before after
 -- the text is refused, and the refusal stands on `err`
-Runs words before after Refused =
-    (error : CedarSchemaError) × Refuses words before after error × Takes before.err after.err (refusal_text error) × SameOut before after
--- the text is well formed, and the listing of the schema that it denotes and of its warnings stands on `out`
-Runs words before after Done =
-    (schema : ValidatorSchema) × (warnings : List SchemaWarning) × Accepts words before after schema warnings
-    × Takes before.out after.out (listing schema warnings) × SameErr before after
+Runs words before after Refused = (told : List ℕ) × IsTold words before after told × Takes before.err after.err told × SameOut before after
+-- the text is accepted, and what is due stands on `out`
+Runs words before after Done = (due : List ℕ) × IsDue words before after due × Takes before.out after.out due × SameErr before after
 -- the sink of the due text failed, and took a front of it
 Runs words before after WriteFault =
-    ((schema : ValidatorSchema) × (warnings : List SchemaWarning) × Accepts words before after schema warnings
-    × TakesFront before.out after.out (listing schema warnings) × Rose before.out_faults after.out_faults × SameErr before after)
-    ⊎ ((error : CedarSchemaError) × Refuses words before after error × TakesFront before.err after.err (refusal_text error) × Rose before.err_faults after.err_faults × SameOut before after)
+    ((due : List ℕ) × IsDue words before after due × TakesFront before.out after.out due × Rose before.out_faults after.out_faults × SameErr before after)
+    ⊎ ((told : List ℕ) × IsTold words before after told × TakesFront before.err after.err told × Rose before.err_faults after.err_faults × SameOut before after)
 
--- a status that a well formed text may have: it is accepted, or memory or a stream failed
-abbrev pub IsAcceptance : Status → Type 0
-IsAcceptance Done = Unit {0}
-IsAcceptance WriteFault = Unit {0}
-IsAcceptance ReadFault = Unit {0}
-IsAcceptance NoMemory = Unit {0}
-IsAcceptance Refused = ⊥
-IsAcceptance Usage = ⊥
-IsAcceptance NotUtf8 = ⊥
-IsAcceptance TooLong = ⊥
+-- ---- completeness
 
--- a well formed text within the limit, whatever the line of words asks, is accepted
-abbrev pub AcceptsWellFormed : List (List ℕ) → Streams → Status → Type 0
-AcceptsWellFormed words before status =
-    (names extensions : List (List ℕ)) (input : List ℕ) (F : Fragment) (warnings : List SchemaWarning)
-    → Asks words names → AreNamed names extensions → before.left ≡ Some input → length input ≤ longest_text → IsUtf8 input
-    → IsWellFormed input extensions F warnings → IsAcceptance status
+-- what a run starts with: the text that the source has left, within the limit, or for `bench` the generated one
+abbrev pub IsGiven : Command → Streams → List ℕ → Type 0
+IsGiven Resolve before text = (before.left ≡ Some text) × (length text ≤ longest_text) × IsUtf8 text
+IsGiven ResolveJson before text = (before.left ≡ Some text) × (length text ≤ longest_text) × IsUtf8 text
+IsGiven Check before text = (before.left ≡ Some text) × (length text ≤ longest_text) × IsUtf8 text
+IsGiven ToJson before text = (before.left ≡ Some text) × (length text ≤ longest_text) × IsUtf8 text
+IsGiven ToCedar before text = (before.left ≡ Some text) × (length text ≤ longest_text) × IsUtf8 text
+IsGiven (Bench n) before text = text ≡ generated n
+
+-- a text that the command accepts is accepted
+abbrev pub AcceptsGiven : List (List ℕ) → Streams → Status → Type 0
+AcceptsGiven words before status =
+    (command : Command) (names extensions : List (List ℕ)) (text : List ℕ)
+    → Asks words command names → AreNamed names extensions → IsGiven command before text
+    → making.Accepts command text extensions → IsAcceptance status

@@ -1,7 +1,7 @@
 // SPDX-License-Identifier: Apache-2.0
 ghost use Rattle.std.specs.Prelude.{◌≡◌, IfOk};
 ghost use Rattle.std.specs.String.{string_bytes};
-ghost use Rattle.cedar_schema_tool.specs.Refusal.{refusal_text};
+ghost use Rattle.cedar_answers.specs.Refusal.{refusal_text};
 
 use cedar_data::Mem;
 use cedar_schema_errors::CedarSchemaError;

@@ -4,8 +4,8 @@ ghost use Rattle.std.specs.String.{string_bytes};
 ghost use Rattle.cedar_names.specs.ExtensionFaults.{extensions_fault};
 ghost use Rattle.cedar_names.specs.Extensions.{extension_words};
 ghost use Rattle.cedar_text.specs.Words.{has_word};
-ghost use Rattle.cedar_schema_tool.specs.CommandLine.{Asks, ext_words};
-ghost use Rattle.cedar_schema_tool.specs.Asking.{Found, FoundOptions, FoundNamed};
+ghost use Rattle.cedar_commands.specs.CommandLine.{Asks, ext_words};
+ghost use Rattle.cedar_commands.specs.Asking.{Found, FoundOptions, FoundNamed};
 
 use cedar_data::{Failure, Mem, NoMemory, Text};
 use cedar_names::Extensions;

@@ -1,6 +1,8 @@
 -- SPDX-License-Identifier: Apache-2.0
 -- What is printed of a refusal.
 use Rattle.std.specs.Prelude.{ℕ, List, [], ◌++◌, Option, None, Some, codes}
+use Rattle.cedar_fmt.specs.Texts as printing
+use Rattle.cedar_fmt.specs.declared.errors.ToCedarSchemaSyntaxError.{ToCedarSchemaSyntaxError}
 use Rattle.cedar_schema_errors.specs.ErrorTexts.{error_help, error_text}
 use Rattle.cedar_schema_errors.specs.declared.schema_error.CedarSchemaError.{CedarSchemaError}
 
@@ -12,3 +14,7 @@ help_line (Some help) = codes "help: " ++ help ++ codes "\n"
 -- the lines of an error
 abbrev pub refusal_text : CedarSchemaError → List ℕ
 refusal_text error = codes "error: " ++ error_text error ++ codes "\n" ++ help_line (error_help error)
+
+-- the line of names that collide
+abbrev pub collisions_refusal : ToCedarSchemaSyntaxError → List ℕ
+collisions_refusal e = codes "error: " ++ printing.error_text e ++ codes "\n"

@@ -1,8 +1,8 @@
 -- SPDX-License-Identifier: Apache-2.0
 use Rattle.std.proofs.Common.{◌≡◌, [], ◌∷◌, ◌++◌, ap, sym, ◌∙◌, arith, codes}
 use Rattle.std.specs.String.{string_bytes}
-use Rattle.cedar_schema_tool.proofs.Asking.{named-next, named-odd, named-other, is_unequal, is_not_unequal}
-use Rattle.cedar_schema_tool.proofs.command_line.named.Goals as goal
+use Rattle.cedar_commands.proofs.Asking.{named-next, named-odd, named-other, is_unequal, is_not_unequal}
+use Rattle.cedar_commands.proofs.command_line.named.Goals as goal
 
 pub returns-then-options-index-lt2 : goal.returns-then-options-index-lt2
 returns-then-options-index-lt2 c = named-odd c.args.options.now c.loop-index.index c.loop-index.names.items c.loop-index.invariant.read c.loop-index-test.true c.if-options-index-lt2.true

@@ -17,8 +17,8 @@ use Rattle.cedar_text.specs.Words.{has_word}
 use Rattle.cedar_names.specs.declared.extensions.Extensions.{Extensions}
 use Rattle.cedar_names.specs.declared.extensions.ExtensionsFault.{ExtensionsFault}
 use Rattle.cedar_streams.proofs.InLoop.{item_at}
-use Rattle.cedar_schema_tool.specs.Asking.{AskFor, Found, FoundNamed, FoundOptions, AsksNamed, AsksOptions}
-use Rattle.cedar_schema_tool.specs.CommandLine.{AreNamed, Asks, available, ext_words}
+use Rattle.cedar_commands.specs.Asking.{AskFor, Found, FoundNamed, FoundOptions, AsksNamed, AsksOptions}
+use Rattle.cedar_commands.specs.CommandLine.{AreNamed, Asks, available, ext_words}
 
 not_false : (t : Bool) → not t ≡ false → t ≡ true
 not_false true e = refl

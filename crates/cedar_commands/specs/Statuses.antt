@@ -1,8 +1,8 @@
 -- SPDX-License-Identifier: Apache-2.0
 -- The numbers of the statuses.
 use Rattle.std.specs.Prelude.{ℕ}
-use Rattle.cedar_schema_tool.specs.declared.status.Status.{Status}
-use Rattle.cedar_schema_tool.specs.declared.status.Status.TheVariants.{Done, Refused, Usage, ReadFault, WriteFault, NotUtf8, TooLong, NoMemory}
+use Rattle.cedar_commands.specs.declared.status.Status.{Status}
+use Rattle.cedar_commands.specs.declared.status.Status.TheVariants.{Done, Refused, Usage, ReadFault, WriteFault, NotUtf8, TooLong, NoMemory}
 
 -- the status that the process ends with
 abbrev pub status_code : Status → ℕ

@@ -26,7 +26,7 @@ pub enum Status {
 
 impl Status {
     ghost use Rattle.std.specs.Prelude.{◌≡◌};
-    ghost use Rattle.cedar_schema_tool.specs.Statuses.{status_code};
+    ghost use Rattle.cedar_commands.specs.Statuses.{status_code};
 
     /// The number that the process ends with.
     pub fn code(self) -> u8

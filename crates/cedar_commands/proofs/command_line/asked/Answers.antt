@@ -1,8 +1,8 @@
 -- SPDX-License-Identifier: Apache-2.0
 use Rattle.std.specs.String.{string_bytes}
 use Rattle.std.proofs.Common.{map, codes, ap, sym, ◌∙◌}
-use Rattle.cedar_schema_tool.proofs.Asking.{words-found, is_not_unequal}
-use Rattle.cedar_schema_tool.proofs.command_line.asked.Goals as goal
+use Rattle.cedar_commands.proofs.Asking.{words-found, is_not_unequal}
+use Rattle.cedar_commands.proofs.command_line.asked.Goals as goal
 
 pub returns : goal.returns
 returns c =

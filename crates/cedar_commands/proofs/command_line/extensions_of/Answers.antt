@@ -1,8 +1,8 @@
 -- SPDX-License-Identifier: Apache-2.0
 use Rattle.std.specs.String.{string_bytes}
 use Rattle.std.proofs.Common.{map, codes, sym, ◌∙◌}
-use Rattle.cedar_schema_tool.proofs.Asking.{options-none, options-ext_none, single_option, no_option, is_equal, many-found}
-use Rattle.cedar_schema_tool.proofs.command_line.extensions_of.Goals as goal
+use Rattle.cedar_commands.proofs.Asking.{options-none, options-ext_none, single_option, no_option, is_equal, many-found}
+use Rattle.cedar_commands.proofs.command_line.extensions_of.Goals as goal
 
 pub returns-in_ok-extensions-in-empty : goal.returns-in_ok-extensions-in-empty
 returns-in_ok-extensions-in-empty c = options-none _ c.in_ok-extensions-in-empty.extensions (no_option c.args.options.now c.in-empty.len_below) c.in_ok-extensions-in-empty.ensures

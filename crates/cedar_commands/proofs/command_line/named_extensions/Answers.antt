@@ -3,8 +3,8 @@ use Rattle.std.specs.String.{string_bytes}
 use Rattle.std.proofs.Common.{map, ap, sym, ◌∙◌, []}
 use Rattle.cedar_names.specs.ExtensionFaults.{extensions_fault}
 use Rattle.cedar_text.specs.Words.{has_word}
-use Rattle.cedar_schema_tool.proofs.Asking.{named-faulty, named-found}
-use Rattle.cedar_schema_tool.proofs.command_line.named_extensions.Goals as goal
+use Rattle.cedar_commands.proofs.Asking.{named-faulty, named-found}
+use Rattle.cedar_commands.proofs.command_line.named_extensions.Goals as goal
 
 pub returns-in-Ok : goal.returns-in-Ok
 returns-in-Ok c =

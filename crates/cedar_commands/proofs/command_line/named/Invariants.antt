@@ -1,8 +1,8 @@
 -- SPDX-License-Identifier: Apache-2.0
 use Rattle.std.proofs.Common.{◌≡◌, ◌++◌, ◌-◌, ◌≤◌, length, drop, map}
 use Rattle.std.specs.String.{string_bytes}
-use Rattle.cedar_schema_tool.specs.CommandLine.{ext_words}
-use Rattle.cedar_schema_tool.proofs.command_line.named.Given as goal
+use Rattle.cedar_commands.specs.CommandLine.{ext_words}
+use Rattle.cedar_commands.proofs.command_line.named.Given as goal
 
 abbrev pub invariant-loop-index : goal.invariant-loop-index
 invariant-loop-index l = record {

@@ -4,7 +4,7 @@ use Rattle.std.specs.Prelude.{◌≡◌, ℕ, List, [], ◌∷◌, Option, None,
 use Rattle.cedar_names.specs.ExtensionFaults.{extensions_fault}
 use Rattle.cedar_names.specs.Extensions.{extension_words}
 use Rattle.cedar_names.specs.declared.extensions.Extensions.{Extensions}
-use Rattle.cedar_schema_tool.specs.CommandLine.{AreNamed, Asks, ext_words}
+use Rattle.cedar_commands.specs.CommandLine.{AreNamed, Asks, ext_words}
 
 -- some names that the words ask for are those of the extension types
 abbrev pub AskFor : (List (List ℕ) → Type 0) → Extensions → Type 0
