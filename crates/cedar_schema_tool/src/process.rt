@@ -1,7 +1,7 @@
 // SPDX-License-Identifier: Apache-2.0
 
 use crate::running::run;
-use crate::status::Status;
+use cedar_commands::Status;
 use cedar_streams::{StdSink, StdSource};
 use std::io::{BufWriter, Write};
 use std::{env, io};
