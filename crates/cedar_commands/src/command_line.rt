@@ -4,28 +4,97 @@ ghost use Rattle.std.specs.String.{string_bytes};
 ghost use Rattle.cedar_names.specs.ExtensionFaults.{extensions_fault};
 ghost use Rattle.cedar_names.specs.Extensions.{extension_words};
 ghost use Rattle.cedar_text.specs.Words.{has_word};
-ghost use Rattle.cedar_commands.specs.CommandLine.{Asks, ext_words};
-ghost use Rattle.cedar_commands.specs.Asking.{Found, FoundOptions, FoundNamed};
+ghost use Rattle.cedar_commands.specs.CommandLine.{ext_words};
+ghost use Rattle.cedar_commands.specs.Asking.{Found, Begin, BeginWithNone, Number, NoNumber, FoundNumber, FoundPlain, FoundOptions, FoundNamed};
 
+use crate::command::Command;
 use cedar_data::{Failure, Mem, NoMemory, Text};
 use cedar_names::Extensions;
+use itoa::Buffer;
 use std::alloc::Global;
 
-/// The extension types that the words of the command line ask to resolve with; none where the words
-/// are no line of the program. It fails only for want of memory.
-pub fn asked(alloc: Global, words: &[String]) -> Mem<Option<Extensions>>
+/// The greatest size that `bench` takes.
+const GREATEST_SIZE: u32 = 5_000;
+
+/// The command that the words of the command line ask for, and the extension types with which; none
+/// where the words are no line of the program. It fails only for want of memory.
+pub fn asked(alloc: Global, words: &[String]) -> Mem<Option<(Command, Extensions)>>
     ensures { IfOk result (λ found. Found (map string_bytes words.now) found) }
 {
-    let Some((command, options)) = words.split_first() else {
+    let Some((command, options)) = command_of(words) else {
         return Ok(None);
     };
-    if command.as_str() != "resolve" {
-        return Ok(None);
+    match extensions_of(alloc, options) {
+        Ok(Some(extensions)) => Ok(Some((command, extensions))),
+        Ok(None) => Ok(None),
+        Err(NoMemory) => Err(NoMemory),
     }
-    extensions_of(alloc, options)
 }
 
-/// The extension types that the words behind `resolve` ask for.
+/// The command that the words begin with, and the words behind it.
+fn command_of(words: &[String]) -> Option<(Command, &[String])>
+    ensures { MatchOption result (BeginWithNone (map string_bytes words.now)) (λ found. Begin (map string_bytes words.now) found.0 (map string_bytes found.1.now)) }
+{
+    let Some((word, others)) = words.split_first() else {
+        return None;
+    };
+    if word.as_str() == "bench" {
+        let Some((size, options)) = size_of(others) else {
+            return None;
+        };
+        return Some((Command::Bench(size), options));
+    }
+    match plain_command(word.as_str()) {
+        Some(command) => Some((command, others)),
+        None => None,
+    }
+}
+
+/// The size that the words begin with, and the words behind it.
+fn size_of(words: &[String]) -> Option<(u32, &[String])>
+    ensures { MatchOption result (NoNumber (map string_bytes words.now)) (λ found. Number (map string_bytes words.now) found.0 (map string_bytes found.1.now)) }
+{
+    let Some((word, options)) = words.split_first() else {
+        return None;
+    };
+    match size(word.as_str()) {
+        Some(size) => Some((size, options)),
+        None => None,
+    }
+}
+
+/// The size that a word writes, in the one way in which a number is written.
+fn size(word: &str) -> Option<u32>
+    ensures { FoundNumber word.now result }
+{
+    let Ok(size) = word.parse::<u32>() else {
+        return None;
+    };
+    if size == 0 || size > GREATEST_SIZE {
+        return None;
+    }
+    let mut buffer = Buffer::new();
+    if buffer.format(size) != word {
+        return None;
+    }
+    Some(size)
+}
+
+/// The command that is this one word.
+fn plain_command(word: &str) -> Option<Command>
+    ensures { FoundPlain word.now result }
+{
+    match word {
+        "resolve" => Some(Command::Resolve),
+        "resolve-json" => Some(Command::ResolveJson),
+        "check" => Some(Command::Check),
+        "to-json" => Some(Command::ToJson),
+        "to-cedar" => Some(Command::ToCedar),
+        _ => None,
+    }
+}
+
+/// The extension types that the words behind the command ask for.
 fn extensions_of(alloc: Global, options: &[String]) -> Mem<Option<Extensions>>
     ensures { IfOk result (λ found. FoundOptions (map string_bytes options.now) found) }
 {

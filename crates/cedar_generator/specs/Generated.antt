@@ -24,6 +24,6 @@ abbrev pub lines_of : ℕ → List ℕ
 lines_of i = type_line i +++ entity_line i +++ action_line i
 
 -- the schema of a size: the lines of the numbers from 1 on
-pub generated : ℕ → List ℕ
+unfoldable pub generated : ℕ → List ℕ
 generated zero = []
 generated (suc n) = generated n ++ lines_of (suc n)

@@ -1,12 +1,10 @@
 -- SPDX-License-Identifier: Apache-2.0
 use Rattle.std.specs.String.{string_bytes}
-use Rattle.std.proofs.Common.{map, codes, ap, sym, ◌∙◌}
-use Rattle.cedar_commands.proofs.Asking.{words-found, is_not_unequal}
+use Rattle.std.proofs.Common.{map}
+use Rattle.cedar_commands.proofs.Asking.{words-unnamed}
 use Rattle.cedar_commands.proofs.command_line.asked.Goals as goal
 
-pub returns : goal.returns
-returns c =
-    words-found (map string_bytes c.args.words.now) (map string_bytes c.in-Some.options.now) (string_bytes c.in-Some.command.now) c.extensions_of.result
-    (ap (map string_bytes) c.in-Some.ensures.cases.0)
-    (sym c.as_str.ensures.value ∙ is_not_unequal c.as_str.result.now (codes "resolve") c.ne.result c.ne.ensures c.if-ne.false)
-    c.extensions_of.ensures
+pub returns-in-Ok-None : goal.returns-in-Ok-None
+returns-in-Ok-None c =
+    words-unnamed (map string_bytes c.args.words.now) (map string_bytes c.in-Some.options.now) c.in-Some.command c.in-Some.ensures
+    (rw c.in-Ok-None.field-0-is at c.in-Ok-None.ensures)
