@@ -22,9 +22,7 @@ pub fn schema_copies(alloc: Global, input: &str) -> Mem<String> {
 fn error_told(alloc: Global, error: &CedarSchemaError) -> Mem<String> {
     let printed = printing(alloc, error)?;
     match error {
-        CedarSchemaError::Parsing(_) => {
-            Ok(format!(in alloc; "Parsing: a copy is {printed}\n")?)
-        }
+        CedarSchemaError::Parsing(_) => { Ok(format!(in alloc; "Parsing: a copy is {printed}\n")?) }
         CedarSchemaError::Schema(error) => {
             let shown = format!(in alloc; "{error:?}")?;
             let (variant, _) = shown.as_str().split_once('(').unwrap_or(("", ""));
