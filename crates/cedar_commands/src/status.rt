@@ -6,7 +6,7 @@ use std::alloc::Global;
 /// How a run ended. The numbers are the statuses of the process.
 #[derive(Clone, Copy, Debug, PartialEq, Eq)]
 pub enum Status {
-    /// The text is well formed, and its listing is written.
+    /// The text is accepted, and what is made of it is written to `out`.
     Done = 0,
     /// The text is refused, and the refusal is written to `err`.
     Refused = 1,
