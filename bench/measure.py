@@ -34,10 +34,10 @@ def written(text):
         yield source.name
 
 
-def run(program, path, statuses):
-    """Processor seconds and peak memory in MB of one `resolve`, which has to end with one of these statuses."""
+def run(program, path, statuses, words=("resolve",)):
+    """Processor seconds and peak memory in MB of one run, which has to end with one of these statuses."""
     with open(path, "rb") as source, open(os.devnull, "wb") as out:
-        child = subprocess.Popen([program, "resolve"], stdin=source, stdout=out, stderr=out)
+        child = subprocess.Popen([program, *words], stdin=source, stdout=out, stderr=out)
         _, status, usage = os.wait4(child.pid, 0)
     child.returncode = os.waitstatus_to_exitcode(status)
     if child.returncode not in statuses:
@@ -45,17 +45,17 @@ def run(program, path, statuses):
     return usage.ru_utime + usage.ru_stime, usage.ru_maxrss / 1024
 
 
-def best_of_three(program, path, statuses=(0,)):
+def best_of_three(program, path, statuses=(0,), words=("resolve",)):
     """The least processor seconds and the greatest peak memory of three runs."""
-    rows = [run(program, path, statuses) for _ in range(3)]
+    rows = [run(program, path, statuses, words) for _ in range(3)]
     return min(row[0] for row in rows), max(row[1] for row in rows)
 
 
-def against_peer(seconds, path, statuses=(0,)):
+def against_peer(seconds, path, statuses=(0,), words=("resolve",)):
     """The peer's processor seconds on the same text and the ratio to them, where there is a peer."""
     if not PEER:
         return []
-    theirs, _ = best_of_three(PEER, path, statuses)
+    theirs, _ = best_of_three(PEER, path, statuses, words)
     return [f"{theirs:.3f}", f"{seconds / theirs:.2f}"]
 
 

@@ -6,9 +6,11 @@ mod calls;
 mod common_defs;
 mod copies;
 mod structures;
+mod walks;
 
 pub use calls::{ActionNameIter, CommonNameIter, EntityNameIter};
 pub use structures::{
     ActionFragment, ActionsDef, CommonTypeDefs, EntityTypeFragment, EntityTypesDef,
     ValidatorApplySpec, ValidatorNamespaceDef, ValidatorSchemaFragment,
 };
+pub use walks::{NamespaceIter, ParentIter};

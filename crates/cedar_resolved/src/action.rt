@@ -187,6 +187,13 @@ impl ValidatorActionId {
         &self.attribute_types
     }
 
+    /// Its attributes with their values.
+    pub(crate) fn attribute_values(&self) -> &ValueMap
+        ensures { result.now ≡ action_attributes self.now }
+    {
+        &self.attributes
+    }
+
     /// Its attributes with their values, in the order of their names.
     pub fn attributes(&self) -> ValueMapIter<'_>
         ensures { result ≡ members (action_attributes self.now) }

@@ -1,10 +1,11 @@
 // SPDX-License-Identifier: Apache-2.0
 use crate::schema_errors::schema_of;
 use cedar_data::{Failure, Mem, NoMemory};
-use cedar_row_calls::{copy_line, printing};
+use cedar_resolved::{ValidatorActionId, ValidatorEntityType, ValidatorSchema};
+use cedar_row_calls::printing;
 use cedar_row_trees::Lines;
+use cedar_schema_errors::CedarSchemaError;
 use cedar_types::{OpenTag, TypeView};
-use cedar_validator::{CedarSchemaError, ValidatorActionId, ValidatorEntityType, ValidatorSchema};
 use std::alloc::Global;
 
 /// What is said of copies of the schema that the input denotes and of each of its types and actions; or of a copy of the
@@ -12,20 +13,21 @@ use std::alloc::Global;
 pub fn schema_copies(alloc: Global, input: &str) -> Mem<String> {
     match schema_of(alloc, input) {
         Ok(schema) => schema_told(alloc, &schema),
-        Err(Failure::Refused(error)) => copy_line(alloc, variant_of(&error), &error),
+        Err(Failure::Refused(error)) => error_told(alloc, &error),
         Err(Failure::NoMemory) => Err(NoMemory),
     }
 }
 
-/// The name of the variant that an error is.
-fn variant_of(error: &CedarSchemaError) -> &'static str {
+/// An error: its variant, and what is said of its copy.
+fn error_told(alloc: Global, error: &CedarSchemaError) -> Mem<String> {
+    let printed = printing(alloc, error)?;
     match error {
-        CedarSchemaError::Syntax(_) => "Syntax",
-        CedarSchemaError::NotBuilt => "NotBuilt",
-        CedarSchemaError::DuplicateDeclarations { .. } => "DuplicateDeclarations",
-        CedarSchemaError::TypeNotDefined { .. } => "TypeNotDefined",
-        CedarSchemaError::ActionNotDefined { .. } => "ActionNotDefined",
-        CedarSchemaError::CycleInActionHierarchy { .. } => "CycleInActionHierarchy",
+        CedarSchemaError::Parsing(_) => { Ok(format!(in alloc; "Parsing: a copy is {printed}\n")?) }
+        CedarSchemaError::Schema(error) => {
+            let shown = format!(in alloc; "{error:?}")?;
+            let (variant, _) = shown.as_str().split_once('(').unwrap_or(("", ""));
+            Ok(format!(in alloc; "{variant}: a copy is {printed}\n")?)
+        }
     }
 }
 

@@ -1,23 +1,27 @@
 // SPDX-License-Identifier: Apache-2.0
-//! Verbs of rows on schemas and on plain declarations.
+//! Verbs of rows on schemas: copies, the errors with which texts are refused, several texts at once, and values of
+//! attributes of actions.
 #![tactic(auto)]
 
 mod copied_schemas;
-mod plain_lines;
+mod lists;
 mod schema_errors;
+mod values;
 
 use cedar_data::Mem;
 pub use copied_schemas::schema_copies;
-pub use plain_lines::plain;
+pub use lists::several;
 pub use schema_errors::schema_error;
 use std::alloc::Global;
+pub use values::action_values;
 
 /// What the verb of this name answers to an input; none where there is no such verb.
 pub fn answer(alloc: Global, verb: &str, _words: &[&str], input: &str) -> Mem<Option<String>> {
     let lines = match verb {
-        "plain" => plain(alloc, input),
+        "action-values" => action_values(alloc, input),
         "schema-copies" => schema_copies(alloc, input),
         "schema-error" => schema_error(alloc, input),
+        "several" => several(alloc, input),
         _ => return Ok(None),
     };
     Ok(Some(lines?))

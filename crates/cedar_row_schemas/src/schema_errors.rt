@@ -1,8 +1,9 @@
 // SPDX-License-Identifier: Apache-2.0
 use cedar_data::{Failure, Mem, NoMemory, Out};
-use cedar_names::Extensions;
+use cedar_resolved::ValidatorSchema;
 use cedar_row_trees::{Lines, line_of};
-use cedar_validator::{CedarSchemaError, ValidatorSchema};
+use cedar_schema::FromCedarSchema;
+use cedar_schema_errors::CedarSchemaError;
 use std::alloc::Global;
 
 /// What the calls of the error say with which a text is refused.
@@ -16,11 +17,11 @@ pub fn schema_error(alloc: Global, input: &str) -> Mem<String> {
 
 /// The schema of a text, where all extension types are available.
 pub fn schema_of(alloc: Global, input: &str) -> Out<ValidatorSchema, CedarSchemaError> {
-    let extensions = Extensions::all_available(alloc)?;
-    ValidatorSchema::from_cedarschema_str(alloc, input, &extensions)
+    ValidatorSchema::parse(alloc, input)
 }
 
-fn error_told(alloc: Global, error: &CedarSchemaError) -> Mem<String> {
+/// What the calls of an error say.
+pub(crate) fn error_told(alloc: Global, error: &CedarSchemaError) -> Mem<String> {
     let mut lines = Lines::new(alloc);
     lines.add_line(error.to_string(alloc)?)?;
     lines.add_help(error.help(alloc)?)?;

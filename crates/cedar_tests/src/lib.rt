@@ -1,6 +1,5 @@
 // SPDX-License-Identifier: Apache-2.0
-//! Tests of trees, of errors of the syntax, of plain types and of schemas: what is built by calls, so that no row can say
-//! it. All else stands as rows in `cedar_rows`.
+//! Tests of trees, of errors of the syntax and of schemas: what is built by calls, so that no row can say it. All else stands as rows in `cedar_rows`.
 #![tactic(auto)]
 
 #[cfg(test)]
@@ -11,7 +10,5 @@ mod lists_of_errors;
 mod making;
 #[cfg(test)]
 mod nodes;
-#[cfg(test)]
-mod plain;
 #[cfg(test)]
 mod trees;

@@ -1,9 +1,9 @@
 // SPDX-License-Identifier: Apache-2.0
 use crate::holding::all_hold;
-use cedar_data::Dup;
-use cedar_names::{EntityType, Extensions};
-use cedar_types::TcNode;
-use cedar_validator::{ValidatorEntityType, ValidatorSchema};
+use cedar_data::Mem;
+use cedar_names::EntityType;
+use cedar_resolved::ValidatorEntityType;
+use cedar_types::{Attributes, OpenTag, TcNode};
 use std::alloc::Global;
 use std::test::Fail;
 
@@ -12,22 +12,24 @@ fn entity(alloc: Global, word: &str) -> Option<EntityType> {
     EntityType::from_normalized_str(alloc, word).ok()
 }
 
-/// An action in a group, and an entity type in another.
-const GROUPED: &str = "action a in b; action b; entity E in F; entity F;";
-
-/// The schema of that text.
-fn grouped(alloc: Global) -> Option<ValidatorSchema> {
-    let extensions = Extensions::all_available(alloc).ok()?;
-    ValidatorSchema::from_cedarschema_str(alloc, GROUPED, &extensions).ok()
+/// An entity type of a name, without attributes.
+fn bare(alloc: Global, name: EntityType) -> Mem<ValidatorEntityType> {
+    let attributes = Attributes::with_attributes(alloc, Vec::new(alloc))?;
+    ValidatorEntityType::new_standard(
+        alloc,
+        name,
+        Vec::new(alloc),
+        attributes,
+        OpenTag::ClosedAttributes,
+        None,
+        None,
+    )
 }
 
-/// A copy of the first of its entity types.
-fn first_type(alloc: Global) -> Option<ValidatorEntityType> {
-    let schema = grouped(alloc)?;
-    match schema.entity_types().next() {
-        Some(ty) => ty.dup(alloc).ok(),
-        None => None,
-    }
+/// The entity type of a word, without attributes.
+fn made(alloc: Global, word: &str) -> Option<ValidatorEntityType> {
+    let name = entity(alloc, word)?;
+    bare(alloc, name).ok()
 }
 
 /// Adds an edge, and tells whether that succeeds.
@@ -66,6 +68,6 @@ fn of_schemas(rt: HostRuntime) -> Result<(), Fail> {
     let alloc = rt.alloc();
     all_hold(&[(
         "an entity type takes an edge",
-        is_edge_taken(alloc, first_type(alloc)),
+        is_edge_taken(alloc, made(alloc, "F")),
     )])
 }

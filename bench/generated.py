@@ -1,0 +1,151 @@
+# SPDX-License-Identifier: Apache-2.0
+"""Texts of schemas for the timings, made by their size."""
+import json
+
+from measure import LIMIT
+
+
+def generated(n):
+    """The schema of a size on which the program's `bench` works."""
+    lines = []
+    for i in range(1, n + 1):
+        lines.append(f"type T{i} = Long;" if i % 16 == 1 else f"type T{i} = Set<T{i - 1}>;")
+        within = f" in E{i // 2}" if i > 1 else ""
+        lines.append(f"entity E{i}{within} = {{ \"t\": T{i} }};")
+        lines.append(f"action \"a{i}\" appliesTo {{ principal: E{i}, resource: E1 }};")
+    return "\n".join(lines) + "\n"
+
+
+EVERY = ("namespace N{i} {{ type T = {{ a: Long, \"b\"?: Set<{{ c: E }}> }}; entity A in [C] = "
+         "{{ a: T, b: Set<String>, }} tags Long; entity C, E; entity F enum [\"p\", \"q\"]; action r; "
+         "action \"s t\" in [r] appliesTo {{ principal: [A, C], resource: F, context: {{ ip: ipaddr }} }}; }}\n")
+
+
+def every_form(size=LIMIT):
+    """Namespaces with declarations of every form, as many as fit."""
+    pieces, length, i = [], 0, 0
+    while True:
+        piece = EVERY.format(i=i)
+        if length + len(piece) > size:
+            return "".join(pieces)
+        pieces.append(piece)
+        length += len(piece)
+        i += 1
+
+
+def plain(n):
+    """Declarations of entity types, one below the other."""
+    return "".join(f"entity Entity{i} {{ name: String, next: Entity{(i + 1) % n} }};\n" for i in range(n))
+
+
+def many_names(n):
+    return "entity " + ", ".join(f"Name{i}" for i in range(n)) + " { a: Long };"
+
+
+def many_parents(n):
+    ids = [f"\"action{i}\"" for i in range(n)]
+    return f"action a in [{', '.join(ids)}]; action {', '.join(ids)};"
+
+
+def many_attributes(n):
+    return "entity E { " + ", ".join(f"attribute{i}: Long" for i in range(n)) + " };"
+
+
+def many_namespaces(n):
+    return "".join(f"namespace N{i} {{ entity E {{ a: Long, e: E }}; }}\n" for i in range(n))
+
+
+def across(n, spaces):
+    """As many entity types, common types and actions, in so many namespaces."""
+    pieces = []
+    for k in range(spaces):
+        inside = "".join(f"entity E{i} {{ t: T{i} }}; type T{i} = Long; action a{i} appliesTo "
+                         f"{{ principal: E{i}, resource: E{i} }};\n" for i in range(k, n, spaces))
+        pieces.append(f"namespace N{k} {{\n{inside}}}\n")
+    return "".join(pieces)
+
+
+def doublings(use):
+    """Sixty common types, each with two attributes of the one before, and a use of the last."""
+    types = "".join(f"type T{i} = {{ a: T{i - 1}, b: T{i - 1} }};\n" for i in range(1, 61))
+    return "type T0 = { a: Long };\n" + types + use
+
+
+def chain(n):
+    return "".join(f"type T{i} = T{i + 1};\n" for i in range(n - 1)) + f"type T{n - 1} = Long; entity E {{ x: T0 }};"
+
+
+def star(n):
+    return "".join(f"type T{i} = Set<Last>;\n" for i in range(n - 1)) + "type Last = Long; entity E { x: T0 };"
+
+
+def cycle(n):
+    return "".join(f"type T{i} = Set<T{(i + 1) % n}>;\n" for i in range(n))
+
+
+def cycles_behind(n):
+    """A chain of common types, each of which is also in a cycle of two."""
+    inner = "".join(f"type A{i} = {{ b: B{i}, next: A{i + 1} }}; type B{i} = {{ a: A{i} }};\n" for i in range(n - 1))
+    return inner + f"type A{n - 1} = {{ b: B{n - 1} }}; type B{n - 1} = {{ a: A{n - 1} }};\n"
+
+
+def one_type(n):
+    """A record of many attributes of one common type."""
+    return "type T = { a: Long };\nentity E { " + ", ".join(f"attribute{i}: T" for i in range(n)) + " };"
+
+
+def undefined(n):
+    return "".join(f"entity E{i} {{ a: U{i} }};\n" for i in range(n))
+
+
+def unused(n):
+    return "".join(f"type T{i} = {{ a: Long, b: Set<String> }};\n" for i in range(n))
+
+
+def applies(principals, resources):
+    """One action on so many principals and resources."""
+    ps = ", ".join(f"P{i}" for i in range(principals))
+    rs = ", ".join(f"R{i}" for i in range(resources))
+    return f"entity {ps}; entity {rs}; action a appliesTo {{ principal: [{ps}], resource: [{rs}] }};"
+
+
+def json_of(definitions):
+    return json.dumps({"": {"commonTypes": definitions.get("types", {}), "entityTypes": definitions.get("entities", {}),
+                            "actions": definitions.get("actions", {})}})
+
+
+def json_declarations(n):
+    """Entity types of three attributes in JSON, each in the one of half its number."""
+    entities = {}
+    for i in range(1, n + 1):
+        shape = {"type": "Record", "attributes": {"name": {"type": "String"}, "age": {"type": "Long", "required": False},
+                                                  "next": {"type": "Set", "element": {"type": "Entity", "name": f"E{i}"}}}}
+        entities[f"E{i}"] = {"memberOfTypes": [f"E{max(i // 2, 1)}"], "shape": shape}
+    return json_of({"entities": entities})
+
+
+def json_keys(n):
+    attributes = {f"attribute{i}": {"type": "Long"} for i in range(n)}
+    return json_of({"entities": {"E": {"shape": {"type": "Record", "attributes": attributes}}}})
+
+
+def json_array(n):
+    entities = {f"E{i}": {} for i in range(n)}
+    entities["E"] = {"memberOfTypes": list(entities)}
+    return json_of({"entities": entities})
+
+
+def json_deep(n):
+    """Common types of sets within sets."""
+    ty = {"type": "Long"}
+    for _ in range(n):
+        ty = {"type": "Set", "element": ty}
+    return json_of({"types": {f"T{i}": ty for i in range(100)}})
+
+
+def json_full():
+    """As many declarations in JSON as fit in the program's limit."""
+    n = LIMIT // len(json_declarations(1000)) * 1000
+    while len(json_declarations(n)) > LIMIT:
+        n -= 500
+    return n, json_declarations(n)

@@ -1,0 +1,5 @@
+-- SPDX-License-Identifier: Apache-2.0
+pub mod AncestorLemmas
+pub mod EnvironmentCounts
+pub mod EnvironmentLemmas
+pub mod KeyCounts
