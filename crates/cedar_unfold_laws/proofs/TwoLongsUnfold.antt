@@ -1,6 +1,6 @@
 -- SPDX-License-Identifier: Apache-2.0
 -- A record of two whole numbers is the only use, and there are no common types: it unfolds, and isn't refused.
-use Rattle.std.proofs.Common.{◌≡◌, ◌<◌, List, [], ◌∷◌, Result, Ok, Err, IfOk, inl, inr, refl, sym, ap, ◌∙◌, subst, arith}
+use Rattle.std.proofs.Common.{◌≡◌, ◌<◌, List, [], ◌∷◌, Result, Ok, Err, IfOk, inl, inr, refl, sym, ap, subst, arith}
 use Rattle.std.proofs.lemmas.Option.{none-some}
 use Rattle.std.specs.Bool.{IsTrue}
 use Rattle.std.specs.List.{AllZip}
@@ -9,16 +9,13 @@ use Rattle.cedar_data.specs.Answers.{IfRefused}
 use Rattle.cedar_data.specs.Firsts.{IsFirst}
 use Rattle.cedar_data.specs.declared.memory.Failure.{Failure}
 use Rattle.cedar_names.specs.Components.{components}
-use Rattle.cedar_names.specs.Names.{entity_words}
 use Rattle.cedar_names.specs.declared.extensions.Extensions.{Extensions}
 use Rattle.cedar_names.specs.declared.internal_name.InternalName.{InternalName}
-use Rattle.cedar_names.specs.declared.name.EntityType.{EntityType}
 use Rattle.cedar_schema_error.specs.FullNames.{FullName}
 use Rattle.cedar_schema_error.specs.Refusals.{Refusal, Shape, UsePlace}
 use Rattle.cedar_schema_error.specs.Told.{told}
 use Rattle.cedar_schema_error.specs.declared.schema_error.SchemaError.{SchemaError}
 use Rattle.cedar_schema_error.specs.declared.use_place.UsePlace as code
-use Rattle.cedar_schema_error.specs.declared.use_place.UsePlace.TheVariants as use_at
 use Rattle.cedar_unfold.proofs.OneUnfolding.{one_type}
 use Rattle.cedar_unfold.proofs.UseLemmas.{refused-weaker}
 use Rattle.cedar_unfold.specs.Faults.{faults}
@@ -94,19 +91,13 @@ pub no_entries : {V W : Type 0} (f : V → W) (es : List (InternalName × V)) �
 no_entries f [] is = refl
 no_entries f (e ∷ es) is = absurd cc
 
-module _ {defs : List (InternalName × SchemaType InternalName)} {uses : List (code.UsePlace × SchemaType InternalName)} (ty : EntityType) (shape : SchemaType InternalName) (extensions : Extensions)
-    (no_defs : defs ≡ []) (one_use : uses ≡ (use_at.Shape ty, shape) ∷ []) (is : written_type components shape ≡ two_longs) where
+module _ (name : FullName) (defs : List (InternalName × SchemaType InternalName)) (uses : List (code.UsePlace × SchemaType InternalName)) (extensions : Extensions)
+    (no_defs : defs ≡ []) (written_use : by_place (written_type components) uses ≡ (Shape name, two_longs) ∷ []) where
   abbrev written : SchemaType InternalName → Written FullName
   written = written_type components
 
-  abbrev name : FullName
-  name = entity_words ty
-
   no_definitions : by_name written defs ≡ []
   no_definitions = ap (by_name written) no_defs
-
-  written_use : by_place written uses ≡ (Shape name, two_longs) ∷ []
-  written_use = ap (by_place written) one_use ∙ ap (λ (t : Written FullName). (Shape name, t) ∷ []) is
 
   the_job : job_of (by_name written defs) (by_place written uses) extensions ≡ job name extensions
   the_job = λ i. job_of (no_definitions i) (written_use i) extensions

@@ -32,11 +32,19 @@ pub fn unfold_two_longs<L: Ledger>(
     ensures refused { IfRefused result (λ _. ⊥) }
     ensures counts { steps.new ≤ steps.old + 6 }
 {
+    let uses = only_use(alloc, ty)?;
+    let defs = Map::new(alloc);
+    unfold_all(alloc, &defs, &uses, extensions, steps)
+}
+
+/// The closed record of two whole numbers as the shape of the entity type, and no other use.
+fn only_use(alloc: Global, ty: EntityType) -> Mem<Map<UsePlace, SchemaType<InternalName>>>
+    ensures { IfOk result (λ uses. by_place (written_type components) uses ≡ (Shape (entity_words ty), two_longs) ∷ []) }
+{
     let shape = two_longs(alloc)?;
     let mut uses = Map::new(alloc);
     uses.put(UsePlace::Shape(ty), shape)?;
-    let defs = Map::new(alloc);
-    unfold_all(alloc, &defs, &uses, extensions, steps)
+    Ok(uses)
 }
 
 /// The closed record of two whole numbers.
