@@ -1,6 +1,6 @@
 // SPDX-License-Identifier: Apache-2.0
 use crate::schema_errors::schema_of;
-use cedar_data::{Failure, Mem, NoMemory};
+use cedar_data::{Failure, Mem, NoMemory, Out};
 use cedar_resolved::{ValidatorActionId, ValidatorEntityType, ValidatorSchema};
 use cedar_row_calls::printing;
 use cedar_row_trees::Lines;
@@ -11,9 +11,16 @@ use std::alloc::Global;
 /// What is said of copies of the schema that the input denotes and of each of its types and actions; or of a copy of the
 /// error with which it is refused.
 pub fn schema_copies(alloc: Global, input: &str) -> Mem<String> {
-    match schema_of(alloc, input) {
-        Ok(schema) => schema_told(alloc, &schema),
-        Err(Failure::Refused(error)) => error_told(alloc, &error),
+    let made = schema_of(alloc, input);
+    let told = made_told(alloc, &made);
+    drop(made);
+    told
+}
+
+fn made_told(alloc: Global, made: &Out<ValidatorSchema, CedarSchemaError>) -> Mem<String> {
+    match made {
+        Ok(schema) => schema_told(alloc, schema),
+        Err(Failure::Refused(error)) => error_told(alloc, error),
         Err(Failure::NoMemory) => Err(NoMemory),
     }
 }

@@ -24,9 +24,16 @@ const ROOM: usize = 65_536;
 /// The listing of what the texts denote together that the input is, apart by lines `---`; or what is said of why they are
 /// refused.
 pub fn several(alloc: Global, input: &str) -> Mem<String> {
-    match schema_of_all(alloc, input) {
-        Ok(schema) => listed(alloc, &schema),
-        Err(Failure::Refused(error)) => error_told(alloc, &error),
+    let made = schema_of_all(alloc, input);
+    let told = made_told(alloc, &made);
+    drop(made);
+    told
+}
+
+fn made_told(alloc: Global, made: &Out<ValidatorSchema, CedarSchemaError>) -> Mem<String> {
+    match made {
+        Ok(schema) => listed(alloc, schema),
+        Err(Failure::Refused(error)) => error_told(alloc, error),
         Err(Failure::NoMemory) => Err(NoMemory),
     }
 }

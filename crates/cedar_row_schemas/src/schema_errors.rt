@@ -8,10 +8,17 @@ use std::alloc::Global;
 
 /// What the calls of the error say with which a text is refused.
 pub fn schema_error(alloc: Global, input: &str) -> Mem<String> {
-    match schema_of(alloc, input).err() {
-        None => line_of(alloc, "a schema"),
-        Some(Failure::Refused(error)) => error_told(alloc, &error),
-        Some(Failure::NoMemory) => Err(NoMemory),
+    let made = schema_of(alloc, input);
+    let told = refusal_told(alloc, &made);
+    drop(made);
+    told
+}
+
+fn refusal_told(alloc: Global, made: &Out<ValidatorSchema, CedarSchemaError>) -> Mem<String> {
+    match made {
+        Ok(_) => line_of(alloc, "a schema"),
+        Err(Failure::Refused(error)) => error_told(alloc, error),
+        Err(Failure::NoMemory) => Err(NoMemory),
     }
 }
 

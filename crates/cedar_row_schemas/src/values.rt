@@ -27,9 +27,16 @@ pub fn action_values(alloc: Global, input: &str) -> Mem<String> {
 }
 
 fn fragment_told(alloc: Global, fragment: Fragment<RawName>) -> Mem<String> {
-    match defined(alloc, fragment) {
-        Ok(definitions) => definitions_told(alloc, &definitions),
-        Err(Failure::Refused(error)) => error_told(alloc, &error),
+    let made = defined(alloc, fragment);
+    let told = made_told(alloc, &made);
+    drop(made);
+    told
+}
+
+fn made_told(alloc: Global, made: &Out<Definitions, CedarSchemaError>) -> Mem<String> {
+    match made {
+        Ok(definitions) => definitions_told(alloc, definitions),
+        Err(Failure::Refused(error)) => error_told(alloc, error),
         Err(Failure::NoMemory) => Err(NoMemory),
     }
 }
