@@ -1,0 +1,11 @@
+-- SPDX-License-Identifier: Apache-2.0
+pub mod Fields
+pub mod Ordered
+pub mod Reordered
+pub mod Texts
+pub mod WrittenDeclarations
+pub mod WrittenFragments
+pub mod WrittenNamespaces
+pub mod WrittenParts
+pub mod WrittenTypes
+pub mod WrittenValues
