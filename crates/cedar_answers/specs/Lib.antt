@@ -1,5 +1,8 @@
 -- SPDX-License-Identifier: Apache-2.0
 pub mod Answers
+pub mod Causes
+pub mod Made
 pub mod Making
+pub mod Printing
 pub mod RawNames
 pub mod Refusal

@@ -3,6 +3,7 @@
 use Rattle.std.specs.Prelude.{ℕ, List, Option, Some}
 use Rattle.cedar_names.specs.Components.{components}
 use Rattle.cedar_text.specs.Joining.{joined}
+use Rattle.cedar_written.specs.Possibilities.{written}
 use Rattle.cedar_written.specs.declared.raw_name.RawName.{RawName}
 
 -- the text of a name as it is written

@@ -1,9 +1,11 @@
 // SPDX-License-Identifier: Apache-2.0
-ghost use Rattle.std.specs.Prelude.{◌≡◌, IfOk};
+ghost use Rattle.std.specs.Prelude.{◌≡◌, IfOk, IsErr};
 ghost use Rattle.std.specs.String.{string_bytes};
-ghost use Rattle.cedar_answers.specs.Refusal.{refusal_text};
+ghost use Rattle.cedar_answers.specs.Refusal.{collisions_refusal, refusal_text};
+ghost use Rattle.cedar_data.specs.Answers.{IfRefused};
 
-use cedar_data::Mem;
+use cedar_data::{Failure, Mem, Out};
+use cedar_fmt::ToCedarSchemaSyntaxError;
 use cedar_schema_errors::CedarSchemaError;
 use std::alloc::Global;
 
@@ -21,4 +23,25 @@ pub(crate) fn refusal_text(alloc: Global, error: &CedarSchemaError) -> Mem<Strin
             Ok(text)
         }
     }
+}
+
+/// The refusal with the lines that are printed of an error.
+pub(crate) fn refused(alloc: Global, error: CedarSchemaError) -> Out<String, String>
+    ensures never { IsErr result }
+    ensures told { IfRefused result (λ told. string_bytes told ≡ refusal_text error) }
+{
+    let told = refusal_text(alloc, &error)?;
+    Err(Failure::Refused(told))
+}
+
+/// The refusal with the line that is printed of names that stand for two types.
+pub(crate) fn refused_for_collisions(
+    alloc: Global,
+    error: ToCedarSchemaSyntaxError,
+) -> Out<String, String>
+    ensures never { IsErr result }
+    ensures told { IfRefused result (λ told. string_bytes told ≡ collisions_refusal error) }
+{
+    let told = format!(in alloc; "error: {error}\n")?;
+    Err(Failure::Refused(told))
 }

@@ -1,0 +1,61 @@
+// SPDX-License-Identifier: Apache-2.0
+ghost use Rattle.cedar_answers.specs.Answers.{Answers, IsAcceptance};
+ghost use Rattle.cedar_answers.specs.Made.{AnswersMade};
+ghost use Rattle.cedar_answers.specs.Making.{DenotesAny, MakesCounts, TellsSchema};
+ghost use Rattle.cedar_answers.specs.Refusal.{refusal_text};
+ghost use Rattle.cedar_listing.specs.Counts.{counts};
+ghost use Rattle.cedar_names.specs.Extensions.{extension_words};
+
+use crate::output::{count, refuse};
+use cedar_commands::Status;
+use cedar_convert_warnings::SchemaWarning;
+use cedar_data::{Failure, Out};
+use cedar_names::Extensions;
+use cedar_resolved::ValidatorSchema;
+use cedar_schema::FromCedarSchema;
+use cedar_schema_errors::CedarSchemaError;
+use cedar_streams::Sink;
+use std::alloc::Global;
+
+/// Writes the line of counts of the schema that the text denotes, and of its warnings, or why it denotes
+/// none.
+pub(crate) fn answer_check<K: Sink, E: Sink>(
+    alloc: Global,
+    text: &str,
+    extensions: &Extensions,
+    out: &mut K,
+    err: &mut E,
+) -> Status
+    ensures answers { Answers (MakesCounts text.now (extension_words extensions.now))
+        (TellsSchema text.now (extension_words extensions.now))
+        (record { bytes = K.written out.old; faults = K.faults out.old })
+        (record { bytes = K.written out.new; faults = K.faults out.new })
+        (record { bytes = E.written err.old; faults = E.faults err.old })
+        (record { bytes = E.written err.new; faults = E.faults err.new }) result }
+    ensures accepts { DenotesAny text.now (extension_words extensions.now) → IsAcceptance result }
+{
+    let made = ValidatorSchema::from_cedarschema_str(alloc, text, extensions);
+    let status = answer_counts(alloc, &made, out, err);
+    drop(made);
+    status
+}
+
+/// Writes the line of counts of a schema and of its warnings, or why there is none.
+fn answer_counts<K: Sink, E: Sink>(
+    alloc: Global,
+    made: &Out<(ValidatorSchema, Vec<SchemaWarning>), CedarSchemaError>,
+    out: &mut K,
+    err: &mut E,
+) -> Status
+    ensures { AnswersMade (λ made. counts made.0 made.1.items) refusal_text made.now
+        (record { bytes = K.written out.old; faults = K.faults out.old })
+        (record { bytes = K.written out.new; faults = K.faults out.new })
+        (record { bytes = E.written err.old; faults = E.faults err.old })
+        (record { bytes = E.written err.new; faults = E.faults err.new }) result }
+{
+    match made {
+        Ok((schema, warnings)) => count(schema, warnings.as_slice(), out),
+        Err(Failure::Refused(error)) => refuse(alloc, error, err),
+        Err(Failure::NoMemory) => Status::NoMemory,
+    }
+}

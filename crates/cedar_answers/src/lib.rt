@@ -1,0 +1,14 @@
+// SPDX-License-Identifier: Apache-2.0
+//! What each command answers to a text: what it makes of the text, or why it refuses it.
+#![tactic(auto)]
+
+mod answering;
+mod check;
+mod output;
+mod refusal;
+mod resolve;
+mod resolve_json;
+mod to_cedar;
+mod to_json;
+
+pub use answering::answer_text;
