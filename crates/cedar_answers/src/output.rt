@@ -1,5 +1,4 @@
 // SPDX-License-Identifier: Apache-2.0
-ghost use Rattle.std.specs.Prelude.{List};
 ghost use Rattle.std.specs.String.{string_bytes};
 ghost use Rattle.cedar_answers.specs.Answers.{Puts, Rejects};
 ghost use Rattle.cedar_answers.specs.Made.{AnswersMade};

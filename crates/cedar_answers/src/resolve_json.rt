@@ -1,5 +1,5 @@
 // SPDX-License-Identifier: Apache-2.0
-ghost use Rattle.std.specs.Prelude.{◌≡◌, ⊤, [], IfOk};
+ghost use Rattle.std.specs.Prelude.{⊤, [], IfOk};
 ghost use Rattle.cedar_answers.specs.Answers.{Answers, IsAcceptance};
 ghost use Rattle.cedar_answers.specs.Causes.{JsonTextCause};
 ghost use Rattle.cedar_answers.specs.Made.{AnswersMade};
