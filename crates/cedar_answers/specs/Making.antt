@@ -78,7 +78,7 @@ abbrev pub MakesCedar : List ℕ → List ℕ → Type 0
 MakesCedar text due = (F : Fragment RawName over_raw) × CanBePrinted text F × (text_of raw_text (print F) ≡ Some due)
 
 -- what a command makes of a text with these extension types
-abbrev pub Makes : Command → List ℕ → List (List ℕ) → List ℕ → Type 0
+unfoldable pub Makes : Command → List ℕ → List (List ℕ) → List ℕ → Type 0
 Makes Resolve text extensions due = MakesListing text extensions due
 Makes ResolveJson text extensions due = MakesJsonListing text extensions due
 Makes Check text extensions due = MakesCounts text extensions due
@@ -112,7 +112,7 @@ TellsCollisions text told =
     (F : Fragment RawName over_raw) × (e : ToCedarSchemaSyntaxError) × IsFragmentText text F × (kept_names e ≡ collisions F) × (told ≡ collisions_refusal e)
 
 -- why a command refuses a text
-abbrev pub Tells : Command → List ℕ → List (List ℕ) → List ℕ → Type 0
+unfoldable pub Tells : Command → List ℕ → List (List ℕ) → List ℕ → Type 0
 Tells Resolve text extensions told = TellsSchema text extensions told
 Tells ResolveJson text extensions told = TellsJsonSchema text extensions told
 Tells Check text extensions told = TellsSchema text extensions told
@@ -135,7 +135,7 @@ abbrev pub DeclaresAny : List ℕ → List (List ℕ) → Type 0
 DeclaresAny text extensions = (F : declared_fragments.Fragment) × (warnings : List SchemaWarning) × DeclaresText text extensions F warnings
 
 -- the texts that a command accepts with these extension types
-abbrev pub Accepts : Command → List ℕ → List (List ℕ) → Type 0
+unfoldable pub Accepts : Command → List ℕ → List (List ℕ) → Type 0
 Accepts Resolve text extensions = DenotesAny text extensions
 Accepts ResolveJson text extensions = DenotesAnyInJson text extensions
 Accepts Check text extensions = DenotesAny text extensions

@@ -16,6 +16,7 @@ use std::alloc::Global;
 /// Answers a text by a command: writes what the command makes of the text to `out`, or why it
 /// refuses the text to `err`. The status says which, or what failed. Nothing is written but by
 /// `Done`, `Refused` and `WriteFault`.
+#[tactic(auto, unfolding(crate::specs::Making::Accepts))]
 pub fn answer_text<K: Sink, E: Sink>(
     alloc: Global,
     command: Command,
