@@ -26,7 +26,7 @@ number_at value (Some v) = value v
 
 module _ {K : Type 0} {cmp : K → K → Ordering} (total : IsTotalOrder cmp) where
   -- a key above one that is equal to q isn't equal to it
-  not_above : (q k above : K) → is_at (cmp q) k ≡ true → cmp k above ≡ Less → is_at (cmp q) above ≡ false
+  pub not_above : (q k above : K) → is_at (cmp q) k ≡ true → cmp k above ≡ Less → is_at (cmp q) above ≡ false
   not_above q k above same less = ap is_eq (total.congr q k above (equal_from (cmp q k) same) ∙ less)
 
   -- of keys above one that is equal to q none is in the sum

@@ -1,4 +1,5 @@
 -- SPDX-License-Identifier: Apache-2.0
+pub mod Ancestors
 pub mod Environments
 pub mod Kinds
 pub mod NodeLaws

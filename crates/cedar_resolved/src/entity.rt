@@ -1,12 +1,13 @@
 // SPDX-License-Identifier: Apache-2.0
 ghost use Rattle.std.specs.Prelude.{◌≡◌, map, IfOk};
-ghost use Rattle.cedar_resolved.specs.Queries.{actions_above, entity_of_action};
-ghost use Rattle.cedar_resolved.specs.Schemas.{action_types};
+ghost use Rattle.std.specs.List.Sorted.{IsStrictlySortedBy};
+ghost use Rattle.cedar_resolved.specs.Queries.{entity_of_action};
+ghost use Rattle.cedar_resolved.specs.Schemas.{action_attributes, action_types, uid_cmp};
 
 use crate::action::ValidatorActionId;
+use crate::action_ancestors::take_ancestors;
 use crate::schema::ValidatorSchema;
-use cedar_closure::TcNode;
-use cedar_data::{Dup, Mem, Set, dup_three};
+use cedar_data::{Dup, Items, Mem, Set, dup_three};
 use cedar_names::EntityUID;
 use cedar_types::ValueMap;
 use std::alloc::Global;
@@ -28,46 +29,36 @@ impl ValidatorSchema {
         ensures { IfOk result (λ entities. entities.items
             ≡ map (entity_of_action self.now) (action_types self.now)) }
     {
+        let mut noted = self.action_ancestors(alloc)?;
         let mut entities = Vec::new(alloc);
         for (name, action) in self.by_action().iter() {
-            let entity = self.action_entity(alloc, name, action)?;
+            let ancestors = take_ancestors(alloc, name, &mut noted);
+            let entity = action_entity(alloc, name, action, ancestors)?;
             entities.push(entity)?;
         }
         Ok(entities)
     }
+}
 
-    /// An action as an entity.
-    fn action_entity(
-        &self,
-        alloc: Global,
-        name: &EntityUID,
-        action: &ValidatorActionId,
-    ) -> Mem<Entity>
-        ensures { IfOk result (λ entity. entity ≡ entity_of_action self.now (name.now, action.now)) }
-    {
-        let uid = name.dup(alloc)?;
-        let attributes = action.attribute_values().dup(alloc)?;
-        let ancestors = self.action_ancestors(alloc, name)?;
-        Ok(Entity {
-            uid,
-            attributes,
-            ancestors,
-        })
-    }
-
-    /// The actions that have the action of this name among their descendants.
-    fn action_ancestors(&self, alloc: Global, uid: &EntityUID) -> Mem<Set<EntityUID>>
-        ensures { IfOk result (λ above. above ≡ actions_above uid.now (action_types self.now)) }
-    {
-        let mut above = Set::new(alloc);
-        for (name, action) in self.by_action().iter() {
-            if action.has_edge_to(uid) {
-                let name = name.dup(alloc)?;
-                above.push_last(name)?;
-            }
-        }
-        Ok(above)
-    }
+/// An action as an entity, with these ancestors.
+fn action_entity(
+    alloc: Global,
+    name: &EntityUID,
+    action: &ValidatorActionId,
+    ancestors: Items<EntityUID>,
+) -> Mem<Entity>
+    requires { IsStrictlySortedBy uid_cmp ancestors }
+    ensures { IfOk result (λ entity. entity
+        ≡ record { uid = name.now; attributes = action_attributes action.now; ancestors = ancestors }) }
+{
+    let uid = name.dup(alloc)?;
+    let attributes = action.attribute_values().dup(alloc)?;
+    let ancestors = Set::from_sorted(alloc, ancestors.into_vec())?;
+    Ok(Entity {
+        uid,
+        attributes,
+        ancestors,
+    })
 }
 
 impl Dup for Entity {

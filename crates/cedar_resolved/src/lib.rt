@@ -3,6 +3,7 @@
 #![tactic(auto)]
 
 mod action;
+mod action_ancestors;
 mod ancestors;
 mod applicable;
 mod entity;
