@@ -1,7 +1,7 @@
 // SPDX-License-Identifier: Apache-2.0
-ghost use Rattle.std.specs.Prelude.{◌≡◌, ◌++◌, map, IfOk};
+ghost use Rattle.std.specs.Prelude.{◌≡◌, [], ◌∷◌, ◌++◌, map, IfOk};
 ghost use Rattle.cedar_tree.specs.Meanings.{schema_tree, annotated_tree, node_of, decl_tree};
-ghost use Rattle.cedar_convert_faults.specs.Gathering.{namespaces_of, gathered_tree, unnamed};
+ghost use Rattle.cedar_convert_faults.specs.Gathering.{namespaces_of, named_namespaces, loose_declarations, gathered_tree, unnamed};
 
 use cedar_data::{Items, Mem};
 use cedar_names::Annotations;
@@ -24,26 +24,44 @@ pub fn gather(alloc: Global, schema: Schema) -> Mem<Items<Gathered>>
     let mut all = Items::new(alloc);
     let mut loose = Items::new(alloc);
     for namespace in schema.into_vec() {
-        let Annotated { item, annotations } = namespace;
-        let Namespace {
-            name,
-            decls,
-            loc: _,
-        } = item;
-        match name {
-            None => {
-                for decl in decls.into_vec() {
-                    loose.push(decl)?;
-                }
+        gather_one(&mut all, &mut loose, namespace)?;
+    }
+    with_unnamed(alloc, all, loose)
+}
+
+/// Puts a named namespace behind the others, or the declarations of an unnamed one behind those that stand in none.
+fn gather_one(
+    all: &mut Items<Gathered>,
+    loose: &mut Items<Annotated<Node<Declaration>>>,
+    namespace: Annotated<Namespace>,
+) -> Mem<()>
+    ensures named { IfOk result (λ _. map gathered_tree all.new
+        ≡ map gathered_tree all.old ++ named_namespaces (schema_tree (namespace ∷ []))) }
+    ensures loose { IfOk result (λ _. map (annotated_tree (node_of decl_tree)) loose.new
+        ≡ map (annotated_tree (node_of decl_tree)) loose.old ++ loose_declarations (schema_tree (namespace ∷ []))) }
+{
+    let Annotated { item, annotations } = namespace;
+    let Namespace {
+        name,
+        decls,
+        loc: _,
+    } = item;
+    match name {
+        None => {
+            for decl in decls.into_vec() {
+                loose.push(decl)?;
             }
-            Some(path) => all.push(Gathered {
+            Ok(())
+        }
+        Some(path) => {
+            all.push(Gathered {
                 name: Some(path),
                 annotations,
                 decls,
-            })?,
+            })?;
+            Ok(())
         }
     }
-    with_unnamed(alloc, all, loose)
 }
 
 /// The namespaces, and behind them the unnamed one of these declarations, if there are any.

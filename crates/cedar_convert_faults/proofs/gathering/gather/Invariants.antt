@@ -5,10 +5,6 @@ use Rattle.cedar_tree.specs.Meanings.{schema_tree, annotated_tree, node_of, decl
 use Rattle.cedar_convert_faults.specs.Gathering.{named_namespaces, loose_declarations, gathered_tree}
 use Rattle.cedar_convert_faults.proofs.gathering.gather.Given as goal
 
--- each declaration is put behind the others
-abbrev pub invariant-loop-decl : goal.invariant-loop-decl
-invariant-loop-decl l = l.loose ++ into_iter_items l.decl-iterator ≡ l.initial.loose ++ into_iter_items l.initial.decl-iterator
-
 -- what is gathered so far, with what is left, is all
 abbrev pub invariant-loop-namespace : goal.invariant-loop-namespace
 invariant-loop-namespace l = record {
