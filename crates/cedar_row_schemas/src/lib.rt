@@ -1,11 +1,12 @@
 // SPDX-License-Identifier: Apache-2.0
-//! Verbs of rows on schemas: copies, the errors with which texts are refused, several texts at once, and values of
-//! attributes of actions.
+//! Verbs of rows on schemas: copies, the errors with which texts are refused, several texts at once, values of
+//! attributes of actions, and one type that is unfolded by itself.
 #![tactic(auto)]
 
 mod copied_schemas;
 mod lists;
 mod schema_errors;
+mod two_longs;
 mod values;
 
 use cedar_data::Mem;
@@ -13,6 +14,7 @@ pub use copied_schemas::schema_copies;
 pub use lists::several;
 pub use schema_errors::schema_error;
 use std::alloc::Global;
+pub use two_longs::two_longs;
 pub use values::action_values;
 
 /// What the verb of this name answers to an input; none where there is no such verb.
@@ -22,6 +24,7 @@ pub fn answer(alloc: Global, verb: &str, _words: &[&str], input: &str) -> Mem<Op
         "schema-copies" => schema_copies(alloc, input),
         "schema-error" => schema_error(alloc, input),
         "several" => several(alloc, input),
+        "two-longs" => two_longs(alloc, input),
         _ => return Ok(None),
     };
     Ok(Some(lines?))

@@ -47,34 +47,55 @@ impl Block {
     }
 
     fn add_times(&mut self, alloc: Global, count: u64, text: &str) -> Result<(), RowFault> {
-        let bytes = unescaped(alloc, text)?;
-        for _ in 0..count {
-            self.bytes.extend_from_slice(bytes.as_slice())?;
+        for copy in 0..count {
+            add_unescaped(alloc, &mut self.bytes, text, copy)?;
         }
         Ok(())
     }
 }
 
-/// The bytes that a text stands for.
-fn unescaped(alloc: Global, text: &str) -> Result<Vec<u8>, RowFault> {
-    let mut bytes = Vec::new(alloc);
+/// Adds the bytes that a text stands for in the copy of this number.
+fn add_unescaped(
+    alloc: Global,
+    bytes: &mut Vec<u8>,
+    text: &str,
+    copy: u64,
+) -> Result<(), RowFault> {
     let mut is_first = true;
     for part in text.split('%') {
         if is_first {
             bytes.extend_from_slice(part.as_bytes())?;
         } else {
-            add_escape(&mut bytes, part)?;
+            add_escape(alloc, bytes, part, copy)?;
         }
         is_first = false;
     }
-    Ok(bytes)
+    Ok(())
 }
 
 /// Adds what stands behind a `%`, up to the next one.
-fn add_escape(bytes: &mut Vec<u8>, part: &str) -> Result<(), RowFault> {
+fn add_escape(alloc: Global, bytes: &mut Vec<u8>, part: &str, copy: u64) -> Result<(), RowFault> {
+    if let Some(rest) = part.strip_prefix('i') {
+        return Ok(add_number(alloc, bytes, copy, rest)?);
+    }
+    if let Some(rest) = part.strip_prefix('j') {
+        return Ok(add_number(alloc, bytes, copy.saturating_add(1), rest)?);
+    }
     if let Some(inside) = part.strip_prefix('{') {
         return add_scalar(bytes, inside);
     }
+    add_byte(bytes, part)
+}
+
+/// Adds a number, and what stands behind it.
+fn add_number(alloc: Global, bytes: &mut Vec<u8>, number: u64, rest: &str) -> Mem<()> {
+    let digits = format!(in alloc; "{number}{rest}")?;
+    bytes.extend_from_slice(digits.as_bytes())?;
+    Ok(())
+}
+
+/// Adds the byte of two hexadecimal digits, and what stands behind them.
+fn add_byte(bytes: &mut Vec<u8>, part: &str) -> Result<(), RowFault> {
     let (code, rest) = part.split_at_checked(2).ok_or(RowFault::BadEscape)?;
     let byte = u8::try_from(hexadecimal(code)?).map_err(|_| RowFault::BadEscape)?;
     bytes.push(byte)?;

@@ -13,7 +13,7 @@ pub enum RowFault {
     UnknownVerb,
     /// No row stands below the verb.
     NoRow,
-    /// Behind `%` stand neither two hexadecimal digits nor a scalar value in braces.
+    /// Behind `%` stand neither two hexadecimal digits nor a scalar value in braces, `i` or `j`.
     BadEscape,
     /// A number is wanted.
     BadNumber,
