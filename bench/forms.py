@@ -83,6 +83,19 @@ UNFOLDING = [("a chain", texts.chain, 20000, 0), ("all of one type", texts.star,
              ("cycles of two behind a chain", texts.cycles_behind, 10000, 1), ("many attributes of one type", texts.one_type, 100000, 0)]
 
 
+def print_conversion(program):
+    """From the text to the fragment: an entity type named `Action` refuses the text right behind its conversion."""
+    print("\nFrom the text to the fragment\n")
+    print_head("text", "bytes", "seconds (processor)", "peak MB", "us per byte", "of a byte of plain text")
+    plain = None
+    for name, make, n, _ in CONVERSION:
+        text = "entity Action;\n" + make(n)
+        seconds, memory = timed(program, text, ("check",), 1)
+        cost = 1e6 * seconds / len(text)
+        plain = plain or cost
+        print_row(name, len(text), f"{seconds:.3f}", f"{memory:.0f}", f"{cost:.3f}", f"{cost / plain:.2f}")
+
+
 def print_doublings(program):
     print("\n`check`, sixty types of two of the one before\n")
     print_head("use", "seconds (processor)", "peak MB")
@@ -103,6 +116,7 @@ def main():
     seconds, memory = timed(program, full, ("resolve",))
     print_row(len(full), f"{seconds:.3f}", f"{memory:.0f}")
     print_json(program)
+    print_conversion(program)
     print_growth(program, "`to-json`", ("to-json",), CONVERSION)
     print_growth(program, "`check`, names", ("check",), NAMES)
     print_growth(program, "`check`, common types", ("check",), UNFOLDING)

@@ -2,6 +2,7 @@
 pub mod Build
 pub mod Rebuild
 pub mod Texts
+pub mod Fronts
 pub mod MapsMade
 pub mod Deciding
 pub mod Exact

@@ -14,7 +14,7 @@ mod shared;
 mod text;
 
 pub use boxed::Boxed;
-pub use dup::Dup;
+pub use dup::{Dup, dup_four, dup_three, dup_two};
 pub use items::Items;
 pub use laws::one_list;
 pub use map::Map;

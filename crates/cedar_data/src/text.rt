@@ -1,11 +1,12 @@
 // SPDX-License-Identifier: Apache-2.0
-ghost use Rattle.std.specs.Prelude.{◌≡◌, List, ℕ, IfOk, Some, refl, nat_eq};
+ghost use Rattle.std.specs.Prelude.{◌≡◌, List, ℕ, IfOk, Some, refl, length, nat_eq, nat_lt};
 ghost use Rattle.std.specs.Rc.{rc_str_bytes};
 ghost use Rattle.std.specs.Cmp;
 ghost use Rattle.std.specs.Cmp.Lexicographic.{pointwise, slice_cmp, nat_list_eq_equiv, nat_list_cmp_total, bytes_decides, texts_ties, texts_po};
 ghost use Rattle.std.specs.Hash as fed;
 ghost use Rattle.std.specs.Hash.{same_Alike};
 ghost use Rattle.std.specs.Ordering.{nat_cmp};
+ghost use Rattle.cedar_data.specs.Fronts.{IsFront};
 
 use crate::dup::Dup;
 use crate::memory::Mem;
@@ -19,6 +20,8 @@ use std::rc::RcStr;
 /// Shared text. A copy shares the bytes of its source.
 #[derive(Debug, Drop)]
 pub struct Text {
+    /// The first bytes and the length as a number, which mostly decides a comparison alone.
+    front: u64,
     shared: RcStr,
 }
 
@@ -26,6 +29,21 @@ impl Model for Text {
     ghost Value = { List ℕ };
 
     ghost view = { λ t. rc_str_bytes t.shared };
+
+    ghost invariant = { λ t. IsFront t.front (rc_str_bytes t.shared) };
+}
+
+/// The front of `text`: its first seven bytes, and then its length, or 8 where it is longer.
+fn front_of(text: &str) -> u64
+    ensures { IsFront result text.now }
+{
+    let bytes = text.as_bytes();
+    let mut digits: u64 = 0;
+    for at in 0..7 {
+        let digit = bytes.get(at).copied().unwrap_or(0);
+        digits = digits * 256 + digit as u64;
+    }
+    digits * 256 + bytes.len().min(8) as u64
 }
 
 impl Text {
@@ -33,8 +51,9 @@ impl Text {
     pub fn new(alloc: Global, s: &str) -> Mem<Text>
         ensures { IfOk result (λ t. t ≡ s.now) }
     {
+        let front = front_of(s);
         let shared = RcStr::from_str(alloc, s)?;
-        Ok(Text { shared })
+        Ok(Text { front, shared })
     }
 
     /// The text as a `str`.
@@ -43,12 +62,22 @@ impl Text {
     {
         self.shared.as_str()
     }
+
+    /// Whether the front holds the whole text.
+    fn is_short(&self) -> bool
+        ensures { result ≡ nat_lt (length self.now) 8 }
+    {
+        self.front % 256 < 8
+    }
 }
 
 impl Dup for Text {
     fn dup(&self, _alloc: Global) -> Mem<Text> {
         let shared = self.shared.clone()?;
-        Ok(Text { shared })
+        Ok(Text {
+            front: self.front,
+            shared,
+        })
     }
 }
 
@@ -58,7 +87,7 @@ impl PartialEq for Text {
     ghost laws = { Cmp.partial_equiv_from_equiv nat_list_eq_equiv };
 
     fn eq(&self, other: &Self) -> bool {
-        self.as_str() == other.as_str()
+        self.front == other.front && (self.is_short() || self.as_str() == other.as_str())
     }
 }
 
@@ -86,6 +115,15 @@ impl Ord for Text {
     ghost matches_eq = { texts_ties };
 
     fn cmp(&self, other: &Self) -> Ordering {
+        if self.front < other.front {
+            return Ordering::Less;
+        }
+        if other.front < self.front {
+            return Ordering::Greater;
+        }
+        if self.is_short() {
+            return Ordering::Equal;
+        }
         self.as_str().cmp(other.as_str())
     }
 }

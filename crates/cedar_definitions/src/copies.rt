@@ -3,7 +3,7 @@ use crate::structures::{
     ActionFragment, ActionsDef, CommonTypeDefs, EntityTypeFragment, EntityTypesDef,
     ValidatorApplySpec, ValidatorNamespaceDef, ValidatorSchemaFragment,
 };
-use cedar_data::{Dup, Mem};
+use cedar_data::{Dup, Mem, dup_four, dup_three, dup_two};
 use cedar_written::RefName;
 use std::alloc::Global;
 
@@ -16,10 +16,13 @@ impl<N: RefName + Ord + Dup + Drop, A: Ord + Dup + Drop> Dup for ValidatorSchema
 
 impl<N: RefName + Ord + Dup + Drop, A: Ord + Dup + Drop> Dup for ValidatorNamespaceDef<N, A> {
     fn dup(&self, alloc: Global) -> Mem<ValidatorNamespaceDef<N, A>> {
-        let namespace = self.namespace.dup(alloc)?;
-        let common_types = self.common_types.dup(alloc)?;
-        let entity_types = self.entity_types.dup(alloc)?;
-        let actions = self.actions.dup(alloc)?;
+        let (namespace, common_types, entity_types, actions) = dup_four(
+            alloc,
+            &self.namespace,
+            &self.common_types,
+            &self.entity_types,
+            &self.actions,
+        )?;
         Ok(ValidatorNamespaceDef {
             namespace,
             common_types,
@@ -38,8 +41,7 @@ impl<N: Dup + Drop> Dup for CommonTypeDefs<N> {
 
 impl<N: Ord + Dup + Drop> Dup for EntityTypesDef<N> {
     fn dup(&self, alloc: Global) -> Mem<EntityTypesDef<N>> {
-        let defs = self.defs.dup(alloc)?;
-        let locs = self.locs.dup(alloc)?;
+        let (defs, locs) = dup_two(alloc, &self.defs, &self.locs)?;
         Ok(EntityTypesDef { defs, locs })
     }
 }
@@ -52,9 +54,7 @@ impl<N: Ord + Dup + Drop> Dup for EntityTypeFragment<N> {
                 parents,
                 tags,
             } => {
-                let attributes = attributes.dup(alloc)?;
-                let parents = parents.dup(alloc)?;
-                let tags = tags.dup(alloc)?;
+                let (attributes, parents, tags) = dup_three(alloc, attributes, parents, tags)?;
                 Ok(EntityTypeFragment::Standard {
                     attributes,
                     parents,
@@ -78,12 +78,18 @@ impl<N: RefName + Ord + Dup + Drop, A: Ord + Dup + Drop> Dup for ActionsDef<N, A
 
 impl<N: RefName + Ord + Dup + Drop, A: Ord + Dup + Drop> Dup for ActionFragment<N, A> {
     fn dup(&self, alloc: Global) -> Mem<ActionFragment<N, A>> {
-        let context = self.context.dup(alloc)?;
-        let applies_to = self.applies_to.dup(alloc)?;
-        let parents = self.parents.dup(alloc)?;
-        let attribute_types = self.attribute_types.dup(alloc)?;
-        let attributes = self.attributes.dup(alloc)?;
-        let loc = self.loc.dup(alloc)?;
+        let (context, applies_to, parents) = dup_three(
+            alloc,
+            &self.context,
+            &self.applies_to,
+            &self.parents,
+        )?;
+        let (attribute_types, attributes, loc) = dup_three(
+            alloc,
+            &self.attribute_types,
+            &self.attributes,
+            &self.loc,
+        )?;
         Ok(ActionFragment {
             context,
             applies_to,
@@ -97,8 +103,11 @@ impl<N: RefName + Ord + Dup + Drop, A: Ord + Dup + Drop> Dup for ActionFragment<
 
 impl<N: Ord + Dup + Drop> Dup for ValidatorApplySpec<N> {
     fn dup(&self, alloc: Global) -> Mem<ValidatorApplySpec<N>> {
-        let principal_apply_spec = self.principal_apply_spec.dup(alloc)?;
-        let resource_apply_spec = self.resource_apply_spec.dup(alloc)?;
+        let (principal_apply_spec, resource_apply_spec) = dup_two(
+            alloc,
+            &self.principal_apply_spec,
+            &self.resource_apply_spec,
+        )?;
         Ok(ValidatorApplySpec {
             principal_apply_spec,
             resource_apply_spec,

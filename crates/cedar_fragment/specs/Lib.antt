@@ -3,4 +3,5 @@ pub mod ActionUids
 pub mod Definitions
 pub mod Printed
 pub mod References
+pub mod Refusals
 pub mod Shapes

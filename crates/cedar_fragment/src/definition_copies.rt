@@ -3,7 +3,7 @@ use crate::definitions::{
     ActionType, ApplySpec, CommonType, EntityType, EntityTypeKind, Fragment, NamespaceDefinition,
     StandardEntityType,
 };
-use cedar_data::{Dup, Mem};
+use cedar_data::{Dup, Mem, dup_four, dup_three, dup_two};
 use cedar_written::RefName;
 use std::alloc::Global;
 
@@ -16,10 +16,13 @@ impl<N: RefName + Dup + Drop> Dup for Fragment<N> {
 
 impl<N: RefName + Dup + Drop> Dup for NamespaceDefinition<N> {
     fn dup(&self, alloc: Global) -> Mem<NamespaceDefinition<N>> {
-        let common_types = self.common_types.dup(alloc)?;
-        let entity_types = self.entity_types.dup(alloc)?;
-        let actions = self.actions.dup(alloc)?;
-        let annotations = self.annotations.dup(alloc)?;
+        let (common_types, entity_types, actions, annotations) = dup_four(
+            alloc,
+            &self.common_types,
+            &self.entity_types,
+            &self.actions,
+            &self.annotations,
+        )?;
         Ok(NamespaceDefinition {
             common_types,
             entity_types,
@@ -31,9 +34,7 @@ impl<N: RefName + Dup + Drop> Dup for NamespaceDefinition<N> {
 
 impl<N: Dup + Drop> Dup for CommonType<N> {
     fn dup(&self, alloc: Global) -> Mem<CommonType<N>> {
-        let ty = self.ty.dup(alloc)?;
-        let annotations = self.annotations.dup(alloc)?;
-        let loc = self.loc.dup(alloc)?;
+        let (ty, annotations, loc) = dup_three(alloc, &self.ty, &self.annotations, &self.loc)?;
         Ok(CommonType {
             ty,
             annotations,
@@ -44,9 +45,7 @@ impl<N: Dup + Drop> Dup for CommonType<N> {
 
 impl<N: Dup + Drop> Dup for EntityType<N> {
     fn dup(&self, alloc: Global) -> Mem<EntityType<N>> {
-        let kind = self.kind.dup(alloc)?;
-        let annotations = self.annotations.dup(alloc)?;
-        let loc = self.loc.dup(alloc)?;
+        let (kind, annotations, loc) = dup_three(alloc, &self.kind, &self.annotations, &self.loc)?;
         Ok(EntityType {
             kind,
             annotations,
@@ -72,9 +71,12 @@ impl<N: Dup + Drop> Dup for EntityTypeKind<N> {
 
 impl<N: Dup + Drop> Dup for StandardEntityType<N> {
     fn dup(&self, alloc: Global) -> Mem<StandardEntityType<N>> {
-        let member_of_types = self.member_of_types.dup(alloc)?;
-        let shape = self.shape.dup(alloc)?;
-        let tags = self.tags.dup(alloc)?;
+        let (member_of_types, shape, tags) = dup_three(
+            alloc,
+            &self.member_of_types,
+            &self.shape,
+            &self.tags,
+        )?;
         Ok(StandardEntityType {
             member_of_types,
             shape,
@@ -85,11 +87,13 @@ impl<N: Dup + Drop> Dup for StandardEntityType<N> {
 
 impl<N: RefName + Dup + Drop> Dup for ActionType<N> {
     fn dup(&self, alloc: Global) -> Mem<ActionType<N>> {
-        let attributes = self.attributes.dup(alloc)?;
-        let applies_to = self.applies_to.dup(alloc)?;
-        let member_of = self.member_of.dup(alloc)?;
-        let annotations = self.annotations.dup(alloc)?;
-        let loc = self.loc.dup(alloc)?;
+        let (attributes, applies_to, member_of) = dup_three(
+            alloc,
+            &self.attributes,
+            &self.applies_to,
+            &self.member_of,
+        )?;
+        let (annotations, loc) = dup_two(alloc, &self.annotations, &self.loc)?;
         Ok(ActionType {
             attributes,
             applies_to,
@@ -102,9 +106,12 @@ impl<N: RefName + Dup + Drop> Dup for ActionType<N> {
 
 impl<N: Dup + Drop> Dup for ApplySpec<N> {
     fn dup(&self, alloc: Global) -> Mem<ApplySpec<N>> {
-        let resource_types = self.resource_types.dup(alloc)?;
-        let principal_types = self.principal_types.dup(alloc)?;
-        let context = self.context.dup(alloc)?;
+        let (resource_types, principal_types, context) = dup_three(
+            alloc,
+            &self.resource_types,
+            &self.principal_types,
+            &self.context,
+        )?;
         Ok(ApplySpec {
             resource_types,
             principal_types,

@@ -1,5 +1,9 @@
 // SPDX-License-Identifier: Apache-2.0
-ghost use Rattle.cedar_written.specs.Answers.{Answers};
+ghost use Rattle.std.specs.Prelude.{◌≡◌, Ok, IfOk};
+ghost use Rattle.cedar_written.specs.Answers.{Answers, IfRefused};
+ghost use Rattle.cedar_written.specs.Through.{through_names};
+ghost use Rattle.cedar_written.specs.declared.reference_type.ReferenceType.TheVariants as kind;
+ghost use Rattle.cedar_fragment.specs.Refusals.{FirstRefusal};
 ghost use Rattle.cedar_fragment.specs.Definitions.{through_action, through_apply, through_common, through_entity, through_kind, through_namespace, through_shape, through_standard, through_uid};
 
 use crate::action_calls::with_type;
@@ -9,9 +13,45 @@ use crate::definitions::{
     ActionType, ApplySpec, CommonType, EntityType, EntityTypeKind, NamespaceDefinition,
     StandardEntityType,
 };
-use cedar_data::Out;
+use cedar_data::{Items, Out};
 use cedar_written::{RefName, ReferenceType, Step, Walk, walk_names};
 use std::alloc::Global;
+
+/// What comes of two parts, or the first refusal.
+#[tactic(auto, using(cedar_written::proofs::Goes::goes))]
+fn walk_two<N, S: Step<N>, A: Walk<N, S> + Drop, B: Walk<N, S> + Drop>(
+    alloc: Global,
+    step: &S,
+    first: A,
+    second: B,
+) -> Out<(A::Full, B::Full), S::Refusal>
+    ensures first { IfOk result (λ made. A.through step.now first ≡ Ok made.0) }
+    ensures second { IfOk result (λ made. B.through step.now second ≡ Ok made.1) }
+    ensures refused { IfRefused result (FirstRefusal
+        (A.through step.now first) (B.through step.now second)) }
+{
+    let first = first.walk(alloc, step)?;
+    let second = second.walk(alloc, step)?;
+    Ok((first, second))
+}
+
+/// What comes of names of entity types and of what is behind them, or the first refusal.
+#[tactic(auto, using(cedar_written::proofs::Goes::goes))]
+fn walk_names_and<N: Drop, S: Step<N>, A: Walk<N, S> + Drop>(
+    alloc: Global,
+    step: &S,
+    names: Items<N>,
+    behind: A,
+) -> Out<(Items<S::Made>, A::Full), S::Refusal>
+    ensures names { IfOk result (λ made. through_names (S.step step.now) kind.Entity names ≡ Ok made.0) }
+    ensures behind { IfOk result (λ made. A.through step.now behind ≡ Ok made.1) }
+    ensures refused { IfRefused result (FirstRefusal
+        (through_names (S.step step.now) kind.Entity names) (A.through step.now behind)) }
+{
+    let names = walk_names(alloc, step, ReferenceType::Entity, names)?;
+    let behind = behind.walk(alloc, step)?;
+    Ok((names, behind))
+}
 
 impl<N: Drop, S: Step<N>> Walk<N, S> for AttributesOrContext<N> {
     type Full = AttributesOrContext<S::Made>;
@@ -59,8 +99,7 @@ impl<N: Drop, S: Step<N>> Walk<N, S> for StandardEntityType<N> {
             shape,
             tags,
         } = self;
-        let member_of_types = walk_names(alloc, step, ReferenceType::Entity, member_of_types)?;
-        let shape = shape.walk(alloc, step)?;
+        let (member_of_types, shape) = walk_names_and(alloc, step, member_of_types, shape)?;
         let tags = tags.walk(alloc, step)?;
         Ok(StandardEntityType {
             member_of_types,
@@ -121,8 +160,7 @@ impl<N: Drop, S: Step<N>> Walk<N, S> for ApplySpec<N> {
             context,
         } = self;
         let resource_types = walk_names(alloc, step, ReferenceType::Entity, resource_types)?;
-        let principal_types = walk_names(alloc, step, ReferenceType::Entity, principal_types)?;
-        let context = context.walk(alloc, step)?;
+        let (principal_types, context) = walk_names_and(alloc, step, principal_types, context)?;
         Ok(ApplySpec {
             resource_types,
             principal_types,
@@ -158,8 +196,7 @@ impl<N: RefName + Drop, S: Step<N>> Walk<N, S> for ActionType<N> {
             annotations,
             loc,
         } = self;
-        let applies_to = applies_to.walk(alloc, step)?;
-        let member_of = member_of.walk(alloc, step)?;
+        let (applies_to, member_of) = walk_two(alloc, step, applies_to, member_of)?;
         Ok(ActionType {
             attributes,
             applies_to,

@@ -7,9 +7,9 @@ ghost use Rattle.cedar_names.specs.Names.{entity_cmp};
 ghost use Rattle.cedar_resolved.specs.Schemas.{action_attribute_types, action_attributes, action_context, action_descendants, action_loc, action_name, action_principals, action_resources, uid_cmp};
 ghost use Rattle.cedar_types.specs.Values.{members};
 
-use crate::sets::set_of;
+use crate::sets::three_sets;
 use cedar_closure::TcNode;
-use cedar_data::{Dup, Mem, Set, SetIter};
+use cedar_data::{Dup, Mem, Set, SetIter, dup_four};
 use cedar_names::{EntityType, EntityUID};
 use cedar_text::Loc;
 use cedar_types::{Attributes, Type, ValueMap, ValueMapIter};
@@ -51,9 +51,12 @@ impl ValidatorActionId {
         ensures attributes { IfOk result (λ action. action_attributes action ≡ attributes) }
         ensures loc { IfOk result (λ action. action_loc action ≡ loc) }
     {
-        let principals = set_of(alloc, principal_entity_types)?;
-        let resources = set_of(alloc, resource_entity_types)?;
-        let descendants = set_of(alloc, descendants)?;
+        let (principals, resources, descendants) = three_sets(
+            alloc,
+            principal_entity_types,
+            resource_entity_types,
+            descendants,
+        )?;
         Ok(ValidatorActionId::from_parts(
             name,
             principals,
@@ -235,14 +238,20 @@ impl TcNode<EntityUID> for ValidatorActionId {
 
 impl Dup for ValidatorActionId {
     fn dup(&self, alloc: Global) -> Mem<ValidatorActionId> {
-        let name = self.name.dup(alloc)?;
-        let principals = self.principals.dup(alloc)?;
-        let resources = self.resources.dup(alloc)?;
-        let descendants = self.descendants.dup(alloc)?;
-        let context = self.context.dup(alloc)?;
-        let attribute_types = self.attribute_types.dup(alloc)?;
-        let attributes = self.attributes.dup(alloc)?;
-        let loc = self.loc.dup(alloc)?;
+        let (name, principals, resources, descendants) = dup_four(
+            alloc,
+            &self.name,
+            &self.principals,
+            &self.resources,
+            &self.descendants,
+        )?;
+        let (context, attribute_types, attributes, loc) = dup_four(
+            alloc,
+            &self.context,
+            &self.attribute_types,
+            &self.attributes,
+            &self.loc,
+        )?;
         Ok(ValidatorActionId {
             name,
             principals,

@@ -7,7 +7,7 @@ ghost use Rattle.cedar_resolved.specs.Schemas.{action_attributes, action_types, 
 use crate::action::ValidatorActionId;
 use crate::action_ancestors::take_ancestors;
 use crate::schema::ValidatorSchema;
-use cedar_data::{Dup, Items, Mem, Set};
+use cedar_data::{Dup, Items, Mem, Set, dup_three};
 use cedar_names::EntityUID;
 use cedar_types::ValueMap;
 use std::alloc::Global;
@@ -63,9 +63,12 @@ fn action_entity(
 
 impl Dup for Entity {
     fn dup(&self, alloc: Global) -> Mem<Entity> {
-        let uid = self.uid.dup(alloc)?;
-        let attributes = self.attributes.dup(alloc)?;
-        let ancestors = self.ancestors.dup(alloc)?;
+        let (uid, attributes, ancestors) = dup_three(
+            alloc,
+            &self.uid,
+            &self.attributes,
+            &self.ancestors,
+        )?;
         Ok(Entity {
             uid,
             attributes,

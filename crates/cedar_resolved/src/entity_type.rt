@@ -11,7 +11,7 @@ ghost use Rattle.cedar_resolved.specs.Schemas.{no_attributes, type_attributes, t
 use crate::kind::{StandardValidatorEntityType, ValidatorEntityTypeKind};
 use crate::sets::set_of;
 use cedar_closure::TcNode;
-use cedar_data::{Dup, Map, Mem, Set, SetIter, Text};
+use cedar_data::{Dup, Map, Mem, Set, SetIter, Text, dup_three, dup_two};
 use cedar_names::EntityType;
 use cedar_text::{Loc, NonEmpty};
 use cedar_types::{AttributeType, Attributes, OpenTag, Type};
@@ -182,11 +182,8 @@ impl TcNode<EntityType> for ValidatorEntityType {
 
 impl Dup for ValidatorEntityType {
     fn dup(&self, alloc: Global) -> Mem<ValidatorEntityType> {
-        let name = self.name.dup(alloc)?;
-        let descendants = self.descendants.dup(alloc)?;
-        let attributes = self.attributes.dup(alloc)?;
-        let kind = self.kind.dup(alloc)?;
-        let loc = self.loc.dup(alloc)?;
+        let (name, descendants) = dup_two(alloc, &self.name, &self.descendants)?;
+        let (attributes, kind, loc) = dup_three(alloc, &self.attributes, &self.kind, &self.loc)?;
         Ok(ValidatorEntityType::from_parts(name, descendants, attributes, kind, loc))
     }
 }

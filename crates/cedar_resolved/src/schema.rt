@@ -7,7 +7,8 @@ ghost use Rattle.cedar_resolved.specs.Schemas.{action_entry, action_types, type_
 
 use crate::action::ValidatorActionId;
 use crate::entity_type::ValidatorEntityType;
-use cedar_data::{Dup, Map, Mem};
+use cedar_closure::{TcKey, TcNode};
+use cedar_data::{Dup, Map, Mem, dup_two};
 use cedar_names::{EntityType, EntityUID};
 use std::alloc::Global;
 use std::collections::btree_map::{Keys, Values};
@@ -31,32 +32,14 @@ pub type ActionIter<'a> = Values<'a, EntityUID, ValidatorActionId>;
 /// The names of actions, in order.
 pub type ActionKeyIter<'a> = Keys<'a, EntityUID, ValidatorActionId>;
 
-/// The entity types by their names.
-fn types_by_name(
-    alloc: Global,
-    entity_types: Vec<ValidatorEntityType>,
-) -> Mem<Map<EntityType, ValidatorEntityType>>
-    ensures { IfOk result (λ made. made ≡ map_of entity_cmp (map type_entry entity_types.items)) }
+/// The nodes by their names. Of several of one name the last stays.
+fn by_name<K: TcKey, V: TcNode<K>>(alloc: Global, nodes: Vec<V>) -> Mem<Map<K, V>>
+    ensures { IfOk result (λ made. made ≡ map_of K.cmp (map (λ node. (V.key node, node)) nodes.items)) }
 {
     let mut pairs = Vec::new(alloc);
-    for ty in entity_types {
-        let name = ty.name().dup(alloc)?;
-        pairs.push((name, ty))?;
-    }
-    Map::from_pairs(alloc, pairs)
-}
-
-/// The actions by their names.
-fn actions_by_name(
-    alloc: Global,
-    action_ids: Vec<ValidatorActionId>,
-) -> Mem<Map<EntityUID, ValidatorActionId>>
-    ensures { IfOk result (λ made. made ≡ map_of uid_cmp (map action_entry action_ids.items)) }
-{
-    let mut pairs = Vec::new(alloc);
-    for action in action_ids {
-        let name = action.name().dup(alloc)?;
-        pairs.push((name, action))?;
+    for node in nodes {
+        let name = node.get_key().dup(alloc)?;
+        pairs.push((name, node))?;
     }
     Map::from_pairs(alloc, pairs)
 }
@@ -72,8 +55,8 @@ impl ValidatorSchema {
         ensures types { IfOk result (λ schema. types schema ≡ map_of entity_cmp (map type_entry entity_types.items)) }
         ensures actions { IfOk result (λ schema. action_types schema ≡ map_of uid_cmp (map action_entry action_ids.items)) }
     {
-        let entity_types = types_by_name(alloc, entity_types)?;
-        let action_ids = actions_by_name(alloc, action_ids)?;
+        let entity_types = by_name(alloc, entity_types)?;
+        let action_ids = by_name(alloc, action_ids)?;
         Ok(ValidatorSchema::from_parts(entity_types, action_ids))
     }
 
@@ -144,8 +127,7 @@ impl ValidatorSchema {
 
 impl Dup for ValidatorSchema {
     fn dup(&self, alloc: Global) -> Mem<ValidatorSchema> {
-        let entity_types = self.entity_types.dup(alloc)?;
-        let action_ids = self.action_ids.dup(alloc)?;
+        let (entity_types, action_ids) = dup_two(alloc, &self.entity_types, &self.action_ids)?;
         Ok(ValidatorSchema::from_parts(entity_types, action_ids))
     }
 }

@@ -15,3 +15,20 @@ pub(crate) fn set_of<K: Ord + Drop>(alloc: Global, items: Vec<K>) -> Mem<Set<K>>
     }
     Ok(set)
 }
+
+/// The sets of the items of three lists.
+pub(crate) fn three_sets<A: Ord + Drop, B: Ord + Drop, C: Ord + Drop>(
+    alloc: Global,
+    a: Vec<A>,
+    b: Vec<B>,
+    c: Vec<C>,
+) -> Mem<(Set<A>, Set<B>, Set<C>)>
+    ensures first { IfOk result (λ sets. sets.0 ≡ set_of A.cmp a.items) }
+    ensures second { IfOk result (λ sets. sets.1 ≡ set_of B.cmp b.items) }
+    ensures third { IfOk result (λ sets. sets.2 ≡ set_of C.cmp c.items) }
+{
+    let first = set_of(alloc, a)?;
+    let second = set_of(alloc, b)?;
+    let third = set_of(alloc, c)?;
+    Ok((first, second, third))
+}

@@ -1,6 +1,6 @@
 // SPDX-License-Identifier: Apache-2.0
 //! Errors on references to what is not declared, and on names that shadow others or stand twice.
-use cedar_data::{Dup, Mem};
+use cedar_data::{Dup, Mem, dup_two};
 use cedar_fragment::{ActionEntityUID, ConditionalName};
 use cedar_names::{EntityType, EntityUID, InternalName};
 use cedar_text::NonEmpty;
@@ -59,8 +59,11 @@ pub struct TypeShadowingError {
 
 impl Dup for TypeShadowingError {
     fn dup(&self, alloc: Global) -> Mem<TypeShadowingError> {
-        let shadowed_def = self.shadowed_def.dup(alloc)?;
-        let shadowing_def = self.shadowing_def.dup(alloc)?;
+        let (shadowed_def, shadowing_def) = dup_two(
+            alloc,
+            &self.shadowed_def,
+            &self.shadowing_def,
+        )?;
         Ok(TypeShadowingError {
             shadowed_def,
             shadowing_def,
@@ -79,8 +82,11 @@ pub struct ActionShadowingError {
 
 impl Dup for ActionShadowingError {
     fn dup(&self, alloc: Global) -> Mem<ActionShadowingError> {
-        let shadowed_def = self.shadowed_def.dup(alloc)?;
-        let shadowing_def = self.shadowing_def.dup(alloc)?;
+        let (shadowed_def, shadowing_def) = dup_two(
+            alloc,
+            &self.shadowed_def,
+            &self.shadowing_def,
+        )?;
         Ok(ActionShadowingError {
             shadowed_def,
             shadowing_def,

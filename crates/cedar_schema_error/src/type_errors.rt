@@ -1,7 +1,7 @@
 // SPDX-License-Identifier: Apache-2.0
 //! Errors on the types that a schema writes, and on the attributes of its actions.
 use crate::use_place::DeepPlace;
-use cedar_data::{Dup, Items, Mem, Text};
+use cedar_data::{Dup, Items, Mem, Text, dup_two};
 use cedar_names::{EntityType, EntityUID, InternalName, Name};
 use std::alloc::Global;
 
@@ -105,8 +105,7 @@ pub struct UnsupportedActionAttributeError {
 
 impl Dup for UnsupportedActionAttributeError {
     fn dup(&self, alloc: Global) -> Mem<UnsupportedActionAttributeError> {
-        let uid = self.uid.dup(alloc)?;
-        let attr = self.attr.dup(alloc)?;
+        let (uid, attr) = dup_two(alloc, &self.uid, &self.attr)?;
         Ok(UnsupportedActionAttributeError { uid, attr })
     }
 }

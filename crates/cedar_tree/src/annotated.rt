@@ -6,8 +6,9 @@ ghost use Rattle.std.specs.Ordering.{ordering_then, partial_ordering_then};
 ghost use Rattle.cedar_data.specs.Maps.{get, Puts};
 ghost use Rattle.cedar_names.specs.Annotating.{annotation_entries, any_cmp};
 ghost use Rattle.cedar_text.specs.Failures.{IfRefused};
+ghost use Rattle.cedar_text.specs.Places.{span_of};
 ghost use Rattle.cedar_tree.specs.Comparing.{annotations_eq, annotations_cmp, annotations-per, annotations-equiv, annotations-po, annotations-total, annotations-ties};
-ghost use Rattle.cedar_tree.specs.Annotating.{meaning, repeat_in, value_text};
+ghost use Rattle.cedar_tree.specs.Annotating.{meaning, meant, repeat_in, value_text};
 ghost use Rattle.cedar_tree.specs.declared.parse_error.UserError.TheVariants.{DuplicateAnnotations};
 
 use crate::parse_error::UserError;
@@ -107,15 +108,35 @@ fn by_key(
     let mut unique = Annotations::new(alloc);
     let mut places: Map<AnyId, Span> = Map::new(alloc);
     for annotation in annotations {
-        let Node {
-            node: (key, value),
-            loc,
-        } = annotation;
-        let place = key.loc.span();
-        note(&mut places, key.node.dup(alloc)?, place)?;
-        put_value(alloc, &mut unique, key.node, value, loc)?;
+        put_annotation(alloc, &mut places, &mut unique, annotation)?;
     }
     Ok(unique)
+}
+
+/// Notes the place of the key of an annotation, and puts its value at the key; refused where the key was noted before.
+fn put_annotation(
+    alloc: Global,
+    places: &mut Map<AnyId, Span>,
+    unique: &mut Annotations,
+    annotation: Node<(Node<AnyId>, Option<Node<Text>>)>,
+) -> Out<(), UserError>
+    ensures new { IfOk result (λ _. None ≡ get any_cmp places.old annotation.node.0.node) }
+    ensures noted { IfOk result (λ _. Puts any_cmp places.old places.new
+        annotation.node.0.node (span_of annotation.node.0.loc)) }
+    ensures means { IfOk result (λ _. annotation_entries unique.new
+        ≡ insert_entry any_cmp (annotation_entries unique.old) (meant annotation).0 (meant annotation).1) }
+    ensures refused { IfRefused result (λ fault. option_map
+        (λ first. DuplicateAnnotations annotation.node.0.node first (span_of annotation.node.0.loc))
+        (get any_cmp places.old annotation.node.0.node) ≡ Some fault) }
+{
+    let Node {
+        node: (key, value),
+        loc,
+    } = annotation;
+    let place = key.loc.span();
+    note(places, key.node.dup(alloc)?, place)?;
+    put_value(alloc, unique, key.node, value, loc)?;
+    Ok(())
 }
 
 /// Notes the place of a key; refused where it was noted before.

@@ -5,14 +5,12 @@ use crate::declaration::{
     ActionDecl, AppDecl, ContextDecl, Declaration, EntityDecl, EnumEntityDecl, Namespace, PR,
     PRAppDecl, StandardEntityDecl, TypeDecl,
 };
-use cedar_data::{Dup, Mem};
+use cedar_data::{Dup, Mem, dup_four, dup_three, dup_two};
 use std::alloc::Global;
 
 impl Dup for Namespace {
     fn dup(&self, alloc: Global) -> Mem<Namespace> {
-        let name = self.name.dup(alloc)?;
-        let decls = self.decls.dup(alloc)?;
-        let loc = self.loc.dup(alloc)?;
+        let (name, decls, loc) = dup_three(alloc, &self.name, &self.decls, &self.loc)?;
         Ok(Namespace { name, decls, loc })
     }
 }
@@ -38,8 +36,7 @@ impl Dup for Declaration {
 
 impl Dup for TypeDecl {
     fn dup(&self, alloc: Global) -> Mem<TypeDecl> {
-        let name = self.name.dup(alloc)?;
-        let def = self.def.dup(alloc)?;
+        let (name, def) = dup_two(alloc, &self.name, &self.def)?;
         Ok(TypeDecl { name, def })
     }
 }
@@ -61,10 +58,13 @@ impl Dup for EntityDecl {
 
 impl Dup for StandardEntityDecl {
     fn dup(&self, alloc: Global) -> Mem<StandardEntityDecl> {
-        let names = self.names.dup(alloc)?;
-        let member_of_types = self.member_of_types.dup(alloc)?;
-        let attrs = self.attrs.dup(alloc)?;
-        let tags = self.tags.dup(alloc)?;
+        let (names, member_of_types, attrs, tags) = dup_four(
+            alloc,
+            &self.names,
+            &self.member_of_types,
+            &self.attrs,
+            &self.tags,
+        )?;
         Ok(StandardEntityDecl {
             names,
             member_of_types,
@@ -76,8 +76,7 @@ impl Dup for StandardEntityDecl {
 
 impl Dup for EnumEntityDecl {
     fn dup(&self, alloc: Global) -> Mem<EnumEntityDecl> {
-        let names = self.names.dup(alloc)?;
-        let choices = self.choices.dup(alloc)?;
+        let (names, choices) = dup_two(alloc, &self.names, &self.choices)?;
         Ok(EnumEntityDecl { names, choices })
     }
 }
@@ -128,9 +127,12 @@ impl Dup for AppDecl {
 
 impl Dup for ActionDecl {
     fn dup(&self, alloc: Global) -> Mem<ActionDecl> {
-        let names = self.names.dup(alloc)?;
-        let parents = self.parents.dup(alloc)?;
-        let app_decls = self.app_decls.dup(alloc)?;
+        let (names, parents, app_decls) = dup_three(
+            alloc,
+            &self.names,
+            &self.parents,
+            &self.app_decls,
+        )?;
         Ok(ActionDecl {
             names,
             parents,
