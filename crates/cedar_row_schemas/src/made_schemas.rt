@@ -40,7 +40,7 @@ fn field<'a>(alloc: Global, fields: &[&'a str], name: &str) -> Mem<Vec<&'a str>>
     let mut is_within = false;
     for word in fields {
         match *word {
-            "above" | "on" | "by" | "listing" | "tagged" | "with" => is_within = *word == name,
+            "above" | "by" | "listing" | "on" | "with" => is_within = *word == name,
             _ if is_within => found.push(*word)?,
             _ => (),
         }
@@ -100,7 +100,7 @@ fn attributes_of(alloc: Global, fields: &[&str]) -> Mem<Attributes> {
     Attributes::with_required_attributes(alloc, list)
 }
 
-/// An entity type `above` these `with` these attributes, `tagged` with text or not; or one `listing` these entities.
+/// An entity type `above` these `with` these attributes and others, tagged with text; or one `listing` these entities.
 fn type_made(alloc: Global, name: &str, fields: &[&str]) -> Out<ValidatorEntityType, NameFault> {
     let name = EntityType::from_normalized_str(alloc, name)?;
     let descendants = types_of(alloc, fields, "above")?;
