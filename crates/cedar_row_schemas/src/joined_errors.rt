@@ -22,11 +22,18 @@ pub fn joined_errors(alloc: Global, input: &str) -> Mem<String> {
 fn errors_of(alloc: Global, input: &str) -> Mem<Vec<SchemaError>> {
     let mut errors = Vec::new(alloc);
     for text in input.split("---\n") {
-        match schema_of(alloc, text) {
-            Err(Failure::Refused(CedarSchemaError::Schema(error))) => errors.push(error)?,
-            Err(Failure::NoMemory) => return Err(NoMemory),
-            _ => (),
+        if let Some(error) = error_of(alloc, text)? {
+            errors.push(error)?;
         }
     }
     Ok(errors)
+}
+
+/// The error of a schema with which a text is refused, if it is with one.
+fn error_of(alloc: Global, text: &str) -> Mem<Option<SchemaError>> {
+    match schema_of(alloc, text) {
+        Err(Failure::Refused(CedarSchemaError::Schema(error))) => Ok(Some(error)),
+        Err(Failure::NoMemory) => Err(NoMemory),
+        _ => Ok(None),
+    }
 }

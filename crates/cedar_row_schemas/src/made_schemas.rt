@@ -5,7 +5,7 @@ use cedar_names::{EntityType, EntityUID, NameFault};
 use cedar_resolved::{ValidatorActionId, ValidatorEntityType, ValidatorSchema};
 use cedar_row_trees::line_of;
 use cedar_text::NonEmpty;
-use cedar_types::{AttributeType, Attributes, CedarValueJson, OpenTag, Type, ValueMap};
+use cedar_types::{Attributes, CedarValueJson, OpenTag, Type, ValueMap};
 use std::alloc::Global;
 
 /// What the queries give of the schema that is made of entity types and actions, one a line of the input.
@@ -64,21 +64,38 @@ fn uids_of(alloc: Global, fields: &[&str], name: &str) -> Out<Vec<EntityUID>, Na
     Ok(uids)
 }
 
+/// The lists of names of an action.
+#[derive(Drop)]
+struct ActionNames {
+    principals: Vec<EntityType>,
+    resources: Vec<EntityType>,
+    descendants: Vec<EntityUID>,
+}
+
+fn names_of(alloc: Global, fields: &[&str]) -> Out<ActionNames, NameFault> {
+    let principals = types_of(alloc, fields, "by")?;
+    let resources = types_of(alloc, fields, "on")?;
+    let descendants = uids_of(alloc, fields, "above")?;
+    Ok(ActionNames {
+        principals,
+        resources,
+        descendants,
+    })
+}
+
 /// An action `by` these principals `on` these resources, `above` these actions and `with` these attributes, which are
 /// true.
 fn action_made(alloc: Global, name: &str, fields: &[&str]) -> Out<ValidatorActionId, NameFault> {
     let name = EntityUID::from_normalized_str(alloc, name)?;
-    let principals = types_of(alloc, fields, "by")?;
-    let resources = types_of(alloc, fields, "on")?;
-    let descendants = uids_of(alloc, fields, "above")?;
-    let no_attributes = Attributes::with_attributes(alloc, Vec::new(alloc))?;
-    let context = Type::record_with_attributes(alloc, no_attributes, OpenTag::ClosedAttributes)?;
+    let ActionNames {
+        principals,
+        resources,
+        descendants,
+    } = names_of(alloc, fields)?;
+    let context = empty_context(alloc)?;
     let types = attributes_of(alloc, fields)?;
-    let mut values = ValueMap::new(alloc);
-    for word in field(alloc, fields, "with")? {
-        values.insert(Text::new(alloc, word)?, CedarValueJson::Bool(true))?;
-    }
-    Ok(ValidatorActionId::new(
+    let values = values_of(alloc, fields)?;
+    let made = ValidatorActionId::new(
         alloc,
         name,
         principals,
@@ -88,7 +105,22 @@ fn action_made(alloc: Global, name: &str, fields: &[&str]) -> Out<ValidatorActio
         types,
         values,
         None,
-    )?)
+    );
+    Ok(made?)
+}
+
+fn empty_context(alloc: Global) -> Mem<Type> {
+    let attributes = Attributes::with_attributes(alloc, Vec::new(alloc))?;
+    Type::record_with_attributes(alloc, attributes, OpenTag::ClosedAttributes)
+}
+
+fn values_of(alloc: Global, fields: &[&str]) -> Mem<ValueMap> {
+    let mut values = ValueMap::new(alloc);
+    for word in field(alloc, fields, "with")? {
+        let name = Text::new(alloc, word)?;
+        values.insert(name, CedarValueJson::Bool(true))?;
+    }
+    Ok(values)
 }
 
 /// The attributes `with` which something is, all of them truth values and required.

@@ -46,7 +46,7 @@ fn made_told(
 fn definitions_of(alloc: Global, input: &str) -> Out<Definitions, CedarSchemaError> {
     let extensions = Extensions::all_available(alloc)?;
     match Fragment::from_cedarschema_str(alloc, input, &extensions) {
-        Ok((fragment, _)) => as_schema_error(all_defined(alloc, fragment, &extensions)),
+        Ok((fragment, _)) => as_schema_error(all_defined(alloc, &fragment, &extensions)),
         Err(failure) => Err(failure),
     }
 }
@@ -61,32 +61,31 @@ fn as_schema_error(made: Out<Definitions, SchemaError>) -> Out<Definitions, Ceda
 
 fn all_defined(
     alloc: Global,
-    fragment: Fragment<RawName>,
+    fragment: &Fragment<RawName>,
     extensions: &Extensions,
 ) -> Out<Definitions, SchemaError> {
     let mut list = Vec::new(alloc);
-    for (name, declared) in fragment.0.into_entries() {
-        list.push(defined(alloc, name, declared, extensions)?)?;
+    for (name, declared) in fragment.0.iter() {
+        let definition = defined(alloc, name.as_ref(), declared, extensions)?;
+        list.push(definition)?;
     }
     Ok(ValidatorSchemaFragment::from_namespaces(list))
 }
 
 fn defined(
     alloc: Global,
-    name: Option<Name>,
-    declared: NamespaceDefinition<RawName>,
+    name: Option<&Name>,
+    declared: &NamespaceDefinition<RawName>,
     extensions: &Extensions,
 ) -> Out<Definition, SchemaError> {
-    let namespace = match &name {
+    let namespace = match name {
         Some(name) => Some(name.as_internal().dup(alloc)?),
         None => None,
     };
+    let declared = declared.dup(alloc)?;
+    let behavior = ActionBehavior::ProhibitAttributes;
     ValidatorNamespaceDef::from_namespace_definition(
-        alloc,
-        namespace,
-        declared,
-        ActionBehavior::ProhibitAttributes,
-        extensions,
+        alloc, namespace, declared, behavior, extensions,
     )
 }
 
@@ -129,7 +128,9 @@ fn add_definition(lines: &mut Lines, definition: &Definition) -> Mem<()> {
     }
     let (types, actions) = (types.told()?, actions.told()?);
     let common = common_told(alloc, definition)?;
-    lines.add_line(format!(in alloc; "entity types {types}, actions {actions}, common types {common}")?)?;
+    lines.add_line(format!(in alloc;
+        "entity types {types}, actions {actions}, common types {common}"
+    )?)?;
     for (name, ty) in definition.entity_types.defs.iter() {
         let parents = parents_told(alloc, ty)?;
         let line = format!(in alloc; "{name} in {parents}")?;
@@ -162,11 +163,15 @@ fn common_alone(alloc: Global, definition: &Definition) -> Mem<Definition> {
     let mut types = BTreeMap::new(alloc);
     for (name, ty) in definition.common_types.defs.iter() {
         let id = name.basename().dup(alloc)?;
-        if let Ok(id) = UnreservedId::try_from_id(alloc, id) {
-            types.insert(id, ty.dup(alloc)?)?;
+        match UnreservedId::try_from_id(alloc, id) {
+            Ok(id) => {
+                let ty = ty.dup(alloc)?;
+                types.insert(id, ty)?;
+            }
+            Err(_) => (),
         }
     }
-    let namespace = definition.namespace().dup(alloc)?;
+    let namespace = definition.namespace.dup(alloc)?;
     ValidatorNamespaceDef::from_common_type_defs(alloc, namespace, types)
 }
 

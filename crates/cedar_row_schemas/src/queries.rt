@@ -3,7 +3,7 @@ use crate::bracketed::Bracketed;
 use crate::queried_actions::{add_action_lookup, add_actions};
 use crate::queried_types::{add_type_lookup, add_types};
 use crate::schema_errors::{error_told, schema_of};
-use cedar_data::{Failure, Mem, NoMemory, Out};
+use cedar_data::{Dup, Failure, Mem, NoMemory, Out};
 use cedar_names::{EntityType, EntityUID};
 use cedar_resolved::{RequestEnv, ValidatorSchema};
 use cedar_row_trees::Lines;
