@@ -32,6 +32,19 @@ def print_generated(program):
         print_row(n, len(text), f"{seconds:.3f}", f"{memory:.0f}", f"{1e6 * seconds / (3 * n):.1f}", *peer)
 
 
+def print_counts(program):
+    """What it takes to count: the program's own generated schemas, and their texts, beside resolving them."""
+    print("\nCounts of generated schemas\n")
+    print_head("words", "size", "seconds (processor)", "peak MB", *PEER_COLUMNS)
+    for n in (100, 1000, 5000):
+        text = texts.generated(n)
+        for words, shown in (("bench", str(n)), "`bench N`"), (("check",), "`check`"), (("resolve",), "`resolve`"):
+            with written("" if words[0] == "bench" else text) as path:
+                seconds, memory = best_of_three(program, path, (0,), words)
+                peer = against_peer(seconds, path, (0,), words)
+            print_row(shown, n, f"{seconds:.3f}", f"{memory:.0f}", *peer)
+
+
 def print_json(program):
     """Texts in JSON."""
     print("\nJSON\n")
@@ -96,6 +109,7 @@ def print_doublings(program):
 def main():
     program = program_to_time()
     print_generated(program)
+    print_counts(program)
     full = texts.every_form()
     print("\n`resolve`, 4 MiB of namespaces of every form\n")
     print_head("bytes", "seconds (processor)", "peak MB")
