@@ -1,10 +1,11 @@
 // SPDX-License-Identifier: Apache-2.0
-ghost use Rattle.std.specs.Prelude.{◌≡◌, ◌++◌, true, false, map, option_map, IfOk, OnOk, MatchResult};
+ghost use Rattle.std.specs.Prelude.{◌≡◌, [], ◌∷◌, ◌++◌, true, false, map, option_map, IfOk, OnOk, MatchResult};
 ghost use Rattle.cedar_data.specs.Maps.{map_of};
 ghost use Rattle.cedar_names.specs.Order.{word_cmp};
 ghost use Rattle.cedar_tree.specs.Meanings.{annotated_tree, annotations_tree, decl_tree, node_of, path_tree};
 ghost use Rattle.cedar_convert_faults.specs.Gathering.{gathered_tree};
-ghost use Rattle.cedar_convert_fragment.specs.Declares.{declared_by, declared_in, definition_of, fragment_of, is_reserved_name};
+ghost use Rattle.cedar_convert_fragment.specs.Declares as declares;
+ghost use Rattle.cedar_convert_fragment.specs.Declares.{declared_by, declared_in, definition_of, fragment_of, given, is_reserved_name};
 ghost use Rattle.cedar_convert_fragment.specs.Views.{actions_seen, commons_seen, definition_seen, entities_seen, fragment_seen, namespace_words, namespaces_seen};
 
 use cedar_convert_declarations::{add_actions, add_common, add_entities};
@@ -59,21 +60,39 @@ pub(crate) fn definition_declared(
     let mut entity_types = Vec::new(alloc);
     let mut actions = Vec::new(alloc);
     for decl in decls.into_vec() {
-        let Annotated { item, annotations } = decl;
-        let Node { node, loc } = item;
-        match node {
-            Declaration::Entity(entity) => {
-                add_entities(alloc, entity, annotations, loc, &mut entity_types)?;
-            }
-            Declaration::Action(action) => {
-                add_actions(alloc, action, annotations, loc, &mut actions)?;
-            }
-            Declaration::Common(common) => {
-                add_common(alloc, common, annotations, loc, &mut common_types)?;
-            }
-        }
+        declare_one(
+            alloc,
+            decl,
+            &mut common_types,
+            &mut entity_types,
+            &mut actions,
+        )?;
     }
     definition(alloc, common_types, entity_types, actions, annotations)
+}
+
+/// Puts what a declaration declares behind the others of its kind. It fails only for want of memory.
+fn declare_one(
+    alloc: Global,
+    decl: Annotated<Node<Declaration>>,
+    common_types: &mut Vec<(CommonTypeId, CommonType<RawName>)>,
+    entity_types: &mut Vec<(UnreservedId, EntityType<RawName>)>,
+    actions: &mut Vec<(Text, ActionType<RawName>)>,
+) -> Mem<()>
+    ensures common_types { OnOk result (commons_seen common_types.new.items
+        ≡ commons_seen common_types.old.items ++ given declares.commons (annotated_tree (node_of decl_tree) decl ∷ [])) }
+    ensures entity_types { OnOk result (entities_seen entity_types.new.items
+        ≡ entities_seen entity_types.old.items ++ given declares.entities (annotated_tree (node_of decl_tree) decl ∷ [])) }
+    ensures actions { OnOk result (actions_seen actions.new.items
+        ≡ actions_seen actions.old.items ++ given declares.actions (annotated_tree (node_of decl_tree) decl ∷ [])) }
+{
+    let Annotated { item, annotations } = decl;
+    let Node { node, loc } = item;
+    match node {
+        Declaration::Entity(entity) => add_entities(alloc, entity, annotations, loc, entity_types),
+        Declaration::Action(action) => add_actions(alloc, action, annotations, loc, actions),
+        Declaration::Common(common) => add_common(alloc, common, annotations, loc, common_types),
+    }
 }
 
 /// The name of a namespace, where it has one; refused where a component is `__cedar`.
