@@ -3,29 +3,29 @@
 //! attributes of actions, queries, and one type that is unfolded by itself.
 #![tactic(auto)]
 
+mod all_errors;
 mod bracketed;
 mod copied_schemas;
-mod joined_errors;
 mod lists;
 mod made_schemas;
 mod queried_actions;
 mod queried_definitions;
+mod queried_schemas;
 mod queried_types;
-mod queries;
 mod schema_errors;
-mod two_longs;
+mod two_attributes;
 mod values;
 
+pub use all_errors::joined_errors;
 use cedar_data::Mem;
 pub use copied_schemas::schema_copies;
-pub use joined_errors::joined_errors;
 pub use lists::several;
 pub use made_schemas::made_queries;
 pub use queried_definitions::definitions;
-pub use queries::queries;
+pub use queried_schemas::queries;
 pub use schema_errors::schema_error;
 use std::alloc::Global;
-pub use two_longs::two_longs;
+pub use two_attributes::two_longs;
 pub use values::action_values;
 
 /// What the verb of this name answers to an input; none where there is no such verb.

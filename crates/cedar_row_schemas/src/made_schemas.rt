@@ -1,5 +1,5 @@
 // SPDX-License-Identifier: Apache-2.0
-use crate::queries::schema_told;
+use crate::queried_schemas::schema_told;
 use cedar_data::{Failure, Mem, NoMemory, Out, Text};
 use cedar_names::{EntityType, EntityUID, NameFault};
 use cedar_resolved::{ValidatorActionId, ValidatorEntityType, ValidatorSchema};
