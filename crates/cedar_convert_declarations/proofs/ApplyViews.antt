@@ -1,9 +1,12 @@
 -- SPDX-License-Identifier: Apache-2.0
 -- What the clauses of an `appliesTo` say, as it is seen.
-use Rattle.std.proofs.Common.{◌≡◌, false, [], ◌++◌, map, Option, Some, None, unwrap_or, refl, sym, ap, ◌∙◌}
+use Rattle.std.proofs.Common.{◌≡◌, false, List, [], ◌++◌, map, Option, Some, None, unwrap_or, refl, sym, ap, ◌∙◌}
 use Rattle.std.proofs.lemmas.List.{append-nil}
 use Rattle.std.specs.Option.{option_or}
-use Rattle.cedar_tree.specs.Trees.{Principal, Resource}
+use Rattle.cedar_text.specs.declared.node.Node.{Node}
+use Rattle.cedar_tree.specs.Meanings.{app_tree, node_of}
+use Rattle.cedar_tree.specs.Trees.{PR, Principal, Resource}
+use Rattle.cedar_tree.specs.declared.declaration.AppDecl.{AppDecl}
 use Rattle.cedar_fragment.specs.Shapes.{shape_of, type_of_shape}
 use Rattle.cedar_fragment.specs.declared.attributes_or_context.AttributesOrContext.{AttributesOrContext}
 use Rattle.cedar_fragment.specs.declared.definitions.ApplySpec.{ApplySpec}
@@ -16,7 +19,7 @@ use Rattle.cedar_convert_faults.specs.Faults.{Clauses}
 use Rattle.cedar_convert_declarations.specs.Applied.{applied_seen, context_seen}
 use Rattle.cedar_convert_fragment.specs.Declares.{applies_to, empty_context, first_context, listed_of}
 use Rattle.cedar_convert_fragment.specs.Fragments as seen
-use Rattle.cedar_convert_fragment.specs.Fragments.{TypeAt}
+use Rattle.cedar_convert_fragment.specs.Fragments.{NameAt, TypeAt}
 use Rattle.cedar_convert_fragment.specs.Views.{apply_seen, name_at, see_attribute, see_form, see_record, see_type, type_seen}
 use Rattle.cedar_convert_declarations.specs.declared.applying.Applied.{Applied}
 
@@ -52,12 +55,27 @@ or-none : (a : Option TypeAt) → option_or a None ≡ a
 or-none None = refl
 or-none (Some x) = refl
 
-pub apply-end : (a : Applied) (cs left : Clauses) (made : ApplySpec RawName) → left ≡ [] → map name_at a.principals ++ listed_of Principal left ≡ listed_of Principal cs → map name_at a.resources ++ listed_of Resource left ≡ listed_of Resource cs
-    → option_or (context_seen a.context) (first_context left) ≡ first_context cs → apply_seen made ≡ applied_seen a → apply_seen made ≡ applies_to cs
-apply-end a cs left made none p r c is =
-    let principals : map name_at a.principals ≡ listed_of Principal cs = sym (append-nil (map name_at a.principals)) ∙ ap (λ l. map name_at a.principals ++ listed_of Principal l) (sym none) ∙ p in
-    let resources : map name_at a.resources ≡ listed_of Resource cs = sym (append-nil (map name_at a.resources)) ∙ ap (λ l. map name_at a.resources ++ listed_of Resource l) (sym none) ∙ r in
-    let context : context_seen a.context ≡ first_context cs = sym (or-none (context_seen a.context)) ∙ ap (λ l. option_or (context_seen a.context) (first_context l)) (sym none) ∙ c in
-    is ∙ (λ i. record { resources = resources i; principals = principals i; context = unwrap_or (context i) empty_context })
+pub context-end : (new all : Option TypeAt) (left : List (Node AppDecl)) → left ≡ [] → option_or new (first_context (map (node_of app_tree) left)) ≡ all → new ≡ all
+context-end new all left none so_far = sym (or-none new) ∙ ap (λ l. option_or new (first_context (map (node_of app_tree) l))) (sym none) ∙ so_far
 
-pub ruleset clauses = (context-next, apply-end)
+pub names-end : (kind : PR) (new all : List NameAt) (left : List (Node AppDecl)) → left ≡ [] → new ++ listed_of kind (map (node_of app_tree) left) ≡ all → new ≡ all
+names-end kind new all left none so_far = sym (append-nil new) ∙ ap (λ l. new ++ listed_of kind (map (node_of app_tree) l)) (sym none) ∙ so_far
+
+pub ruleset clauses = (context-next, context-end, names-end)
+
+-- all clauses, where there was nothing before
+pub apply-all : (a : Applied) (first others : List RawName) (cs : Clauses) (made : ApplySpec RawName) → first ≡ [] → others ≡ [] → map name_at a.principals ≡ map name_at first ++ listed_of Principal cs → map name_at a.resources ≡ map name_at others ++ listed_of Resource cs
+    → context_seen a.context ≡ first_context cs → apply_seen made ≡ applied_seen a → apply_seen made ≡ applies_to cs
+apply-all a first others cs made no_first no_others p r c is =
+    let principals : map name_at a.principals ≡ listed_of Principal cs = p ∙ ap (λ l. map name_at l ++ listed_of Principal cs) no_first in
+    let resources : map name_at a.resources ≡ listed_of Resource cs = r ∙ ap (λ l. map name_at l ++ listed_of Resource cs) no_others in
+    is ∙ (λ i. record { resources = resources i; principals = principals i; context = unwrap_or (c i) empty_context })
+
+pub ruleset all_clauses = (apply-all)
+
+-- a context that is kept unless there is one
+pub context-kept : (old new : Option (AttributesOrContext RawName)) (context : AttributesOrContext RawName) (content : TypeAt) → new ≡ option_or old (Some context) → type_seen (type_of_shape context) ≡ content → context_seen new ≡ option_or (context_seen old) (Some content)
+context-kept None new context content put is = ap context_seen put ∙ ap Some is
+context-kept (Some x) new context content put is = ap context_seen put
+
+pub ruleset kept = (context-kept)

@@ -1,6 +1,6 @@
 -- SPDX-License-Identifier: Apache-2.0
 -- What declarations declare, as it is seen.
-use Rattle.std.proofs.Common.{◌≡◌, ℕ, List, [], ◌∷◌, ◌++◌, map, Option, Some, None, option_map, refl, ap, ◌∙◌}
+use Rattle.std.proofs.Common.{◌≡◌, ℕ, List, [], ◌∷◌, ◌++◌, map, Option, Some, None, option_map, Result, Ok, IfOk, refl, ap, subst, ◌∙◌}
 use Rattle.cedar_names.specs.Identifiers.{unreserved_word}
 use Rattle.cedar_names.specs.declared.annotation.Annotations.{Annotations}
 use Rattle.cedar_names.specs.declared.id.UnreservedId.{UnreservedId}
@@ -48,11 +48,21 @@ pub standard-is : (parents : List RawName) (shape : AttributesOrContext RawName)
     → kind_seen (sort.Standard (record { member_of_types = parents; shape = shape; tags = tags })) ≡ Shaped names content of_tags
 standard-is parents shape tags names content of_tags p s t = λ i. Shaped (p i) (s i) (t i)
 
+-- the same, where all parts were made
+pub standard-made : {E : Type 0} (named : Result (List RawName) E) (shaped : Result (AttributesOrContext RawName) E) (tagged : Result (Option (SchemaType RawName)) E) (parents : List RawName) (shape : AttributesOrContext RawName) (tags : Option (SchemaType RawName)) (names : List NameAt) (content : TypeAt) (of_tags : Option TypeAt)
+    → IfOk named (λ made. map name_at made ≡ names) → IfOk shaped (λ made. type_seen (type_of_shape made) ≡ content) → IfOk tagged (λ made. option_map type_seen made ≡ of_tags) → named ≡ Ok parents → shaped ≡ Ok shape → tagged ≡ Ok tags
+    → kind_seen (sort.Standard (record { member_of_types = parents; shape = shape; tags = tags })) ≡ Shaped names content of_tags
+standard-made named shaped tagged parents shape tags names content of_tags p s t is_named is_shaped is_tagged =
+    standard-is parents shape tags names content of_tags (subst (λ r. IfOk r (λ made. map name_at made ≡ names)) is_named p) (subst (λ r. IfOk r (λ made. type_seen (type_of_shape made) ≡ content)) is_shaped s)
+    (subst (λ r. IfOk r (λ made. option_map type_seen made ≡ of_tags)) is_tagged t)
+
+pub ruleset standard = (standard-made)
+
 -- entity types that are listed
 pub enum-is : (choices : NonEmpty (List ℕ)) (ids : List (List ℕ)) → elements choices ≡ ids → kind_seen (sort.Enum choices) ≡ Listed ids
 enum-is choices ids is = ap Listed is
 
-pub ruleset contents = (standard-is, enum-is)
+pub ruleset contents = (enum-is)
 
 -- an action
 pub action-is : (spec : ApplySpec RawName) (parents : Option (List (ActionEntityUID RawName over_raw))) (annotations : Annotations) (loc : Loc) (applies : AppliesTo) (members : Option (List ActionAt)) → apply_seen spec ≡ applies → option_map (map parent_seen) parents ≡ members
@@ -60,4 +70,12 @@ pub action-is : (spec : ApplySpec RawName) (parents : Option (List (ActionEntity
     ≡ record { content = record { attributes = None; applies_to = Some applies; member_of = members }; annotations = annotations_tree annotations; loc = Some loc }
 action-is spec parents annotations loc applies members a m = λ i. record { content = record { attributes = None; applies_to = Some (a i); member_of = m i }; annotations = annotations_tree annotations; loc = Some loc }
 
-pub ruleset acting = (action-is)
+-- the same, where both parts were made
+pub action-made : {E : Type 0} (applied : Result (ApplySpec RawName) E) (kin : Result (Option (List (ActionEntityUID RawName over_raw))) E) (spec : ApplySpec RawName) (parents : Option (List (ActionEntityUID RawName over_raw))) (annotations : Annotations) (loc : Loc) (applies : AppliesTo) (members : Option (List ActionAt))
+    → IfOk applied (λ made. apply_seen made ≡ applies) → IfOk kin (λ made. option_map (map parent_seen) made ≡ members) → applied ≡ Ok spec → kin ≡ Ok parents
+    → action_seen (record { attributes = None; applies_to = Some spec; member_of = parents; annotations = annotations; loc = Some loc })
+    ≡ record { content = record { attributes = None; applies_to = Some applies; member_of = members }; annotations = annotations_tree annotations; loc = Some loc }
+action-made applied kin spec parents annotations loc applies members a k is_spec is_parents =
+    action-is spec parents annotations loc applies members (subst (λ r. IfOk r (λ made. apply_seen made ≡ applies)) is_spec a) (subst (λ r. IfOk r (λ made. option_map (map parent_seen) made ≡ members)) is_parents k)
+
+pub ruleset acting = (action-made)

@@ -5,7 +5,7 @@ ghost use Rattle.cedar_text.specs.Lists.{elements};
 ghost use Rattle.cedar_tree.specs.Meanings.{app_tree, listed, node_of, qual_tree};
 ghost use Rattle.cedar_tree.specs.Trees.{Principal, Resource};
 ghost use Rattle.cedar_convert_declarations.specs.Applied.{applied_seen, context_seen};
-ghost use Rattle.cedar_convert_fragment.specs.Declares.{applies_to, clauses_of, context_in, listed_in, name_of, parent_of, parents_of};
+ghost use Rattle.cedar_convert_fragment.specs.Declares.{applies_to, clauses_of, context_in, first_context, listed_in, listed_of, name_of, parent_of, parents_of};
 ghost use Rattle.cedar_convert_fragment.specs.Views.{apply_seen, name_at, parent_seen};
 
 use crate::putting::add_raw_names;
@@ -26,6 +26,7 @@ struct Applied {
 
 impl Applied {
     /// With what a clause says: more principals, more resources, or a context where there was none.
+    #[tactic(auto, using(crate::proofs::ApplyViews::kept))]
     fn add(&mut self, alloc: Global, clause: AppDecl) -> Mem<()>
         ensures principals { OnOk result (map name_at self.new.principals
             ≡ map name_at self.old.principals ++ map name_of (listed_in Principal (app_tree clause))) }
@@ -40,18 +41,41 @@ impl Applied {
                 PR::Resource => add_raw_names(alloc, entity_tys, &mut self.resources),
             },
             AppDecl::Context(shape) => {
-                self.context = match self.context.take() {
-                    Some(context) => Some(context),
-                    None => Some(shape_declared(alloc, shape)?),
-                };
+                let shape = shape_declared(alloc, shape)?;
+                keep_first(&mut self.context, shape);
                 Ok(())
             }
         }
     }
+
+    /// With what each of the clauses says.
+    #[tactic(auto, using(crate::proofs::ApplyViews::clauses))]
+    fn add_all(&mut self, alloc: Global, clauses: Vec<Node<AppDecl>>) -> Mem<()>
+        ensures principals { OnOk result (map name_at self.new.principals
+            ≡ map name_at self.old.principals ++ listed_of Principal (map (node_of app_tree) clauses.items)) }
+        ensures resources { OnOk result (map name_at self.new.resources
+            ≡ map name_at self.old.resources ++ listed_of Resource (map (node_of app_tree) clauses.items)) }
+        ensures context { OnOk result (context_seen self.new.context
+            ≡ option_or (context_seen self.old.context) (first_context (map (node_of app_tree) clauses.items))) }
+    {
+        for clause in clauses {
+            self.add(alloc, clause.node)?;
+        }
+        Ok(())
+    }
+}
+
+/// Keeps the value where none is kept yet.
+fn keep_first<T: Drop>(kept: &mut Option<T>, value: T)
+    ensures { kept.new ≡ option_or kept.old (Some value) }
+{
+    if kept.is_none() {
+        *kept = Some(value);
+    }
 }
 
 /// What the clauses of an `appliesTo` say.
-#[tactic(auto, using(crate::proofs::ApplyViews::clauses))]
+#[tactic(auto, using(crate::proofs::ApplyViews::all_clauses))]
 fn clauses_declared(alloc: Global, clauses: Vec<Node<AppDecl>>) -> Mem<ApplySpec<RawName>>
     ensures { IfOk result (λ made. apply_seen made
         ≡ applies_to (map (node_of app_tree) clauses.items)) }
@@ -61,9 +85,7 @@ fn clauses_declared(alloc: Global, clauses: Vec<Node<AppDecl>>) -> Mem<ApplySpec
         resources: Items::new(alloc),
         context: None,
     };
-    for clause in clauses {
-        applied.add(alloc, clause.node)?;
-    }
+    applied.add_all(alloc, clauses)?;
     Ok(with_context(alloc, applied))
 }
 

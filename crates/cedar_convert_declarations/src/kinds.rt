@@ -1,16 +1,17 @@
 // SPDX-License-Identifier: Apache-2.0
 ghost use Rattle.std.specs.Prelude.{◌≡◌, ◌++◌, Some, map, option_map, IfOk, OnOk};
 ghost use Rattle.cedar_names.specs.Identifiers.{unreserved_word};
-ghost use Rattle.cedar_tree.specs.Meanings.{action_tree, alias_tree, annotations_tree, context_tree, entity_tree, node_of, path_tree, type_tree};
+ghost use Rattle.cedar_tree.specs.Meanings.{action_tree, alias_tree, annotations_tree, app_tree, context_tree, entity_tree, listed, node_of, path_tree, qual_tree, type_tree};
+ghost use Rattle.cedar_text.specs.Lists.{elements};
 ghost use Rattle.cedar_tree.specs.Trees.{Action, Common, Entity};
 ghost use Rattle.cedar_convert_faults.specs.Bindings.{entity_names};
 ghost use Rattle.cedar_convert_faults.specs.Repeats.{words_of};
-ghost use Rattle.cedar_convert_fragment.specs.Declares.{action_content, actions, commons, entities, entity_content, free_names, name_of, shape_type, type_at};
-ghost use Rattle.cedar_convert_fragment.specs.Fragments.{Shaped};
+ghost use Rattle.cedar_convert_fragment.specs.Declares.{action_content, actions, applies_to, clauses_of, commons, entities, entity_content, free_names, name_of, parents_of, shape_type, type_at};
+ghost use Rattle.cedar_convert_fragment.specs.Fragments.{Listed, Shaped};
 ghost use Rattle.cedar_convert_fragment.specs.Views.{action_seen, actions_seen, commons_seen, entities_seen, kind_seen, type_seen};
 
 use crate::applying::{applies_declared, parents_declared};
-use crate::putting::{put_each, raw_names, some_texts, texts, unreserved_ids};
+use crate::putting::{all_three, both, put_each, raw_names, some_texts, texts, unreserved_ids};
 use cedar_convert_fragment::{shape_declared, type_declared};
 use cedar_data::{Items, Mem, Text};
 use cedar_fragment::{
@@ -18,9 +19,10 @@ use cedar_fragment::{
     StandardEntityType,
 };
 use cedar_names::{Annotations, UnreservedId};
-use cedar_text::{Loc, Node};
+use cedar_text::{Loc, Node, NonEmpty};
 use cedar_tree::{
-    ActionDecl, ContextDecl, EntityDecl, EnumEntityDecl, Path, StandardEntityDecl, Type, TypeDecl,
+    ActionDecl, AppDecl, ContextDecl, EntityDecl, EnumEntityDecl, Path, QualName,
+    StandardEntityDecl, Type, TypeDecl,
 };
 use std::alloc::Global;
 
@@ -39,7 +41,7 @@ fn tags_declared(alloc: Global, tags: Option<Node<Type>>) -> Mem<Option<SchemaTy
 }
 
 /// Entity types with these parents, this shape and this type of tags.
-#[tactic(auto, using(crate::proofs::KindViews::contents))]
+#[tactic(auto, using(crate::proofs::KindViews::standard))]
 fn standard_declared(
     alloc: Global,
     parents: Items<Path>,
@@ -49,9 +51,10 @@ fn standard_declared(
     ensures { IfOk result (λ made. kind_seen made ≡ Shaped (map name_of (map path_tree parents))
         (shape_type (context_tree shape)) (option_map type_at (option_map (node_of type_tree) tags))) }
 {
-    let member_of_types = raw_names(alloc, parents)?;
-    let shape = shape_declared(alloc, shape)?;
-    let tags = tags_declared(alloc, tags)?;
+    let names = raw_names(alloc, parents);
+    let shape = shape_declared(alloc, shape);
+    let tags = tags_declared(alloc, tags);
+    let (member_of_types, shape, tags) = all_three(names, shape, tags)?;
     Ok(EntityTypeKind::Standard(StandardEntityType {
         member_of_types,
         shape,
@@ -59,8 +62,17 @@ fn standard_declared(
     }))
 }
 
-/// The names of entity types, but for `__cedar`, and what they are.
+/// The entity types with these entities.
 #[tactic(auto, using(crate::proofs::KindViews::contents))]
+fn listed_declared(alloc: Global, choices: NonEmpty<Node<Text>>) -> Mem<EntityTypeKind<RawName>>
+    ensures { IfOk result (λ made. kind_seen made
+        ≡ Listed (words_of (map (node_of (λ text. text)) (elements choices)))) }
+{
+    let choices = some_texts(alloc, choices)?;
+    Ok(EntityTypeKind::Enum { choices })
+}
+
+/// The names of entity types, but for `__cedar`, and what they are.
 fn entity_declared(
     alloc: Global,
     entity: EntityDecl,
@@ -77,15 +89,13 @@ fn entity_declared(
                 attrs,
                 tags,
             } = standard;
-            let ids = unreserved_ids(alloc, names)?;
-            let kind = standard_declared(alloc, member_of_types, attrs, tags)?;
-            Ok((ids, kind))
+            let ids = unreserved_ids(alloc, names);
+            both(ids, standard_declared(alloc, member_of_types, attrs, tags))
         }
         EntityDecl::Enum(listed) => {
             let EnumEntityDecl { names, choices } = listed;
-            let ids = unreserved_ids(alloc, names)?;
-            let choices = some_texts(alloc, choices)?;
-            Ok((ids, EntityTypeKind::Enum { choices }))
+            let ids = unreserved_ids(alloc, names);
+            both(ids, listed_declared(alloc, choices))
         }
     }
 }
@@ -111,8 +121,38 @@ pub fn add_entities(
     Ok(())
 }
 
-/// What an action is.
+/// What an action is that applies to this and has these parents.
 #[tactic(auto, using(crate::proofs::KindViews::acting))]
+fn acting_declared(
+    alloc: Global,
+    clauses: Option<Node<NonEmpty<Node<AppDecl>>>>,
+    parents: Option<NonEmpty<Node<QualName>>>,
+    annotations: Annotations,
+    loc: Loc,
+) -> Mem<ActionType<RawName>>
+    ensures { IfOk result (λ made. action_seen made ≡ record {
+      content = record {
+        attributes = None;
+        applies_to = Some (applies_to (clauses_of
+            (option_map (node_of (λ lines. map (node_of app_tree) (elements lines))) clauses)));
+        member_of = parents_of (map (node_of qual_tree) (listed parents));
+      };
+      annotations = annotations_tree annotations;
+      loc = Some loc;
+    }) }
+{
+    let applied = applies_declared(alloc, clauses);
+    let (applies_to, member_of) = both(applied, parents_declared(alloc, parents))?;
+    Ok(ActionType {
+        attributes: None,
+        applies_to: Some(applies_to),
+        member_of,
+        annotations,
+        loc: Some(loc),
+    })
+}
+
+/// The names of actions, and what they are.
 fn action_declared(
     alloc: Global,
     action: ActionDecl,
@@ -128,17 +168,11 @@ fn action_declared(
         parents,
         app_decls,
     } = action;
-    let names = texts(alloc, names)?;
-    let applies_to = applies_declared(alloc, app_decls)?;
-    let member_of = parents_declared(alloc, parents)?;
-    let action = ActionType {
-        attributes: None,
-        applies_to: Some(applies_to),
-        member_of,
-        annotations,
-        loc: Some(loc),
-    };
-    Ok((names, action))
+    let names = texts(alloc, names);
+    both(
+        names,
+        acting_declared(alloc, app_decls, parents, annotations, loc),
+    )
 }
 
 /// Puts the actions of a declaration behind the others.

@@ -1,5 +1,5 @@
 // SPDX-License-Identifier: Apache-2.0
-ghost use Rattle.std.specs.Prelude.{◌≡◌, ◌++◌, ◌∷◌, [], map, IfOk, OnOk};
+ghost use Rattle.std.specs.Prelude.{◌≡◌, ◌++◌, ◌∷◌, [], map, IfOk, Ok, OnOk};
 ghost use Rattle.cedar_names.specs.Identifiers.{id_word, unreserved_word};
 ghost use Rattle.cedar_text.specs.Lists.{elements};
 ghost use Rattle.cedar_tree.specs.Meanings.{listed, node_of, path_tree};
@@ -14,6 +14,32 @@ use cedar_names::{Id, UnreservedId};
 use cedar_text::{Node, NonEmpty, push_elements};
 use cedar_tree::Path;
 use std::alloc::Global;
+
+/// Both of what was made, where neither failed for want of memory.
+pub(crate) fn both<A: Drop, B: Drop>(one: Mem<A>, other: Mem<B>) -> Mem<(A, B)>
+    ensures one { IfOk result (λ made. one ≡ Ok made.0) }
+    ensures other { IfOk result (λ made. other ≡ Ok made.1) }
+{
+    let one = one?;
+    let other = other?;
+    Ok((one, other))
+}
+
+/// All three of what was made, where none failed for want of memory.
+pub(crate) fn all_three<A: Drop, B: Drop, C: Drop>(
+    one: Mem<A>,
+    other: Mem<B>,
+    third: Mem<C>,
+) -> Mem<(A, B, C)>
+    ensures one { IfOk result (λ made. one ≡ Ok made.0) }
+    ensures other { IfOk result (λ made. other ≡ Ok made.1) }
+    ensures third { IfOk result (λ made. third ≡ Ok made.2) }
+{
+    let one = one?;
+    let other = other?;
+    let third = third?;
+    Ok((one, other, third))
+}
 
 /// Puts each of these keys with the value behind the others. The last key takes the value itself, each other a copy.
 #[tactic(auto, using(crate::proofs::PutEach::putting))]

@@ -47,6 +47,11 @@ pub attribute_made : (Of : Data → SchemaType RawName → Type 0) (d : Data) (t
 unfolding AttributeShape
 attribute_made Of d ty required annotations typed flag noted = (typed, flag, noted)
 
+pub attribute_put : (Of : Data → SchemaType RawName → Type 0) (d : Data) (read ty : SchemaType RawName) (required : Bool) (annotations : Annotations)
+    → Of d read → ty ≡ read → MayHave (codes "required") (λ b. b ≡ true) IsFlag d required → MayHave (codes "annotations") NoAnnotations AreAnnotations d annotations
+    → AttributeShape Of d (roll-TypeOfAttribute RawName (record { ty = ty; annotations = annotations; required = required }))
+attribute_put Of d read ty required annotations typed same flag noted = attribute_made Of d ty required annotations (subst (λ t. Of d t) (sym same) typed) flag noted
+
 -- ---- what kind of type it is
 
 variant_made : (left : ℕ) (d : Data) (v : TypeVariant RawName) (l : VariantLayer RawName) → out-TypeVariant RawName v ≡ l → VariantParts left (Part left) d l → VariantShape left (word_for l) d v

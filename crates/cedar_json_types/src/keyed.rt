@@ -40,25 +40,68 @@ fn takes(set: KeySet, key: &str) -> bool
     ensures { result ≡ has_word (keys.keys_of set) key.now }
 {
     match set {
-        KeySet::Namespace => key == "commonTypes"
-            || key == "entityTypes"
-            || key == "actions"
-            || key == "annotations",
-        KeySet::EntityType => key == "memberOfTypes"
-            || key == "shape"
-            || key == "tags"
-            || key == "enum"
-            || key == "annotations",
-        KeySet::Action => key == "attributes"
-            || key == "appliesTo"
-            || key == "memberOf"
-            || key == "annotations",
-        KeySet::ApplySpec => key == "resourceTypes" || key == "principalTypes" || key == "context",
-        KeySet::Parent => key == "id" || key == "type",
+        KeySet::Namespace => takes_namespace(key),
+        KeySet::EntityType => takes_entity(key),
+        KeySet::Action => takes_action(key),
+        KeySet::ApplySpec => takes_apply(key),
+        KeySet::Parent => takes_parent(key),
         KeySet::Type => takes_type(key),
-        KeySet::CommonType => takes_type(key) || key == "annotations",
-        KeySet::Attribute => takes_type(key) || key == "required" || key == "annotations",
+        KeySet::CommonType => takes_common(key),
+        KeySet::Attribute => takes_attribute(key),
     }
+}
+
+/// Whether a namespace may have the key.
+fn takes_namespace(key: &str) -> bool
+    ensures { result ≡ has_word keys.namespace_keys key.now }
+{
+    key == "commonTypes" || key == "entityTypes" || key == "actions" || key == "annotations"
+}
+
+/// Whether an entity type may have the key.
+fn takes_entity(key: &str) -> bool
+    ensures { result ≡ has_word keys.entity_keys key.now }
+{
+    key == "memberOfTypes"
+        || key == "shape"
+        || key == "tags"
+        || key == "enum"
+        || key == "annotations"
+}
+
+/// Whether an action may have the key.
+fn takes_action(key: &str) -> bool
+    ensures { result ≡ has_word keys.action_keys key.now }
+{
+    key == "attributes" || key == "appliesTo" || key == "memberOf" || key == "annotations"
+}
+
+/// Whether what an action applies to may have the key.
+fn takes_apply(key: &str) -> bool
+    ensures { result ≡ has_word keys.apply_keys key.now }
+{
+    key == "resourceTypes" || key == "principalTypes" || key == "context"
+}
+
+/// Whether an action as a parent may have the key.
+fn takes_parent(key: &str) -> bool
+    ensures { result ≡ has_word keys.parent_keys key.now }
+{
+    key == "id" || key == "type"
+}
+
+/// Whether a common type may have the key.
+fn takes_common(key: &str) -> bool
+    ensures { result ≡ has_word (keys.type_keys (codes "annotations" ∷ [])) key.now }
+{
+    takes_type(key) || key == "annotations"
+}
+
+/// Whether the type of an attribute may have the key.
+fn takes_attribute(key: &str) -> bool
+    ensures { result ≡ has_word (keys.type_keys (codes "required" ∷ codes "annotations" ∷ [])) key.now }
+{
+    takes_type(key) || key == "required" || key == "annotations"
 }
 
 /// Whether each type may have the key.

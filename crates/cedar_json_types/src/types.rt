@@ -1,10 +1,11 @@
 // SPDX-License-Identifier: Apache-2.0
-ghost use Rattle.std.specs.Prelude.{◌≡◌, ◌≢◌, ◌<◌, codes, Bool, Some, None, IfOk};
+ghost use Rattle.std.specs.Prelude.{◌≡◌, ◌≢◌, ◌<◌, codes, true, Bool, Some, None, IfOk, OnOk};
+ghost use Rattle.std.specs.BTreeMap.{insert_entry};
 ghost use Rattle.cedar_text.specs.Failures.{IfRefused};
 ghost use Rattle.serde_json.specs.View.{view, members_view};
-ghost use Rattle.cedar_json_types.specs.Faults.{in_text, any_text, no_flag, needs, allows, excess_of, members_fault, entry_fault};
+ghost use Rattle.cedar_json_types.specs.Faults.{first, in_text, any_text, no_flag, needs, allows, excess_of, members_fault, entry_fault};
 ghost use Rattle.cedar_json_types.specs.Parts as parts;
-ghost use Rattle.cedar_json_types.specs.Parts.{reference_fault, IsName};
+ghost use Rattle.cedar_json_types.specs.Parts.{annotations_fault, reference_fault, AreAnnotations, IsName, NoAnnotations};
 ghost use Rattle.serde_json.specs.Data.{string};
 ghost use Rattle.serde_json.specs.Find.{get};
 ghost use Rattle.cedar_json_fault.specs.declared.json_fault.NameKind.TheVariants as what;
@@ -23,7 +24,7 @@ use crate::names::{read_id, read_reference, reference_of};
 use crate::reading::ReadPart;
 use crate::refusing::{missing, refuse, under, wrong_type};
 use crate::words::{TypeWord, word_of};
-use cedar_data::{Boxed, Map, Out, Text};
+use cedar_data::{Boxed, Map, Mem, Out, Text};
 use cedar_json_fault::{JsonDeserializationError, JsonFault, JsonKind, JsonShape, NameKind};
 use cedar_names::{Annotations, UnreservedId};
 use cedar_written::{RawName, RecordType, SchemaType, TypeOfAttribute, TypeVariant};
@@ -365,15 +366,22 @@ fn read_members(
     let mut attributes = Map::new(alloc);
     for (key, member) in members.iter() {
         let attribute = under(alloc, key.as_str(), read_attribute(alloc, member, left))?;
-        let name = Text::new(alloc, key.as_str())?;
-        attributes.put(name, attribute)?;
+        put_at(alloc, key.as_str(), attribute, &mut attributes)?;
     }
     Ok(attributes)
 }
 
+/// Puts the value at the key.
+fn put_at<V: Drop>(alloc: Global, key: &str, value: V, map: &mut Map<Text, V>) -> Mem<()>
+    ensures { OnOk result (map.new ≡ insert_entry (slice_cmp nat_cmp) map.old key.now value) }
+{
+    let name = Text::new(alloc, key)?;
+    map.put(name, value)
+}
+
 /// The type of an attribute, where `left` sets and records may nest from the type's own on.
 #[cycle(read)]
-#[tactic(auto, using(crate::proofs::TypeLemmas::attribute_made))]
+#[tactic(auto, using(crate::proofs::TypeLemmas::attribute_put))]
 fn read_attribute(
     alloc: Global,
     value: &Value,
@@ -385,13 +393,31 @@ fn read_attribute(
     ensures refused { IfRefused result (λ e. attribute_fault (part_fault left set.Attribute) (view value.now) ≡ Some e) }
 {
     let ty = read_part(alloc, value, KeySet::Attribute, left)?;
-    let required = flag_at(alloc, value, "required", true)?;
-    let annotations: Annotations = unless_absent(alloc, value, "annotations")?;
+    let (ty, required, annotations) = noted(alloc, value, ty)?;
     Ok(TypeOfAttribute {
         ty,
         annotations,
         required,
     })
+}
+
+/// With what the members of an attribute beside its type say of it.
+fn noted<T: Drop>(
+    alloc: Global,
+    value: &Value,
+    ty: T,
+) -> Out<(T, bool, Annotations), JsonDeserializationError>
+    ensures ty { IfOk result (λ made. made.0 ≡ ty) }
+    ensures required { IfOk result (λ made. MayHave (codes "required") (λ b. b ≡ true) IsFlag (view value.now) made.1) }
+    ensures annotations { IfOk result (λ made. MayHave (codes "annotations") NoAnnotations AreAnnotations (view value.now) made.2) }
+    ensures clean { IfOk result (λ _. first (allows (codes "required") no_flag (view value.now))
+        (allows (codes "annotations") annotations_fault (view value.now)) ≡ None) }
+    ensures refused { IfRefused result (λ e. first (allows (codes "required") no_flag (view value.now))
+        (allows (codes "annotations") annotations_fault (view value.now)) ≡ Some e) }
+{
+    let required = flag_at(alloc, value, "required", true)?;
+    let annotations: Annotations = unless_absent(alloc, value, "annotations")?;
+    Ok((ty, required, annotations))
 }
 
 /// The type that the value has the shape of, at such a place.

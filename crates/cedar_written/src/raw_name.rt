@@ -115,15 +115,27 @@ impl RawName {
         ensures first { IfOk result (λ n. first_possibility n
             ≡ qualified (written self) (option_copied ns.entry)) }
     {
-        let name = self.name.dup(alloc)?;
-        let head = name.qualify_with(alloc, ns)?;
-        let tail = other_possibilities(alloc, &self.name, ns)?;
+        let possibilities = possibilities(alloc, &self.name, ns)?;
         Ok(ConditionalName {
             raw: self,
             reference_type,
-            possibilities: NonEmpty { head, tail },
+            possibilities,
         })
     }
+}
+
+/// The full names that the name may stand for, the one that counts first at the head.
+#[tactic(auto, using(crate::proofs::Possible::possible))]
+fn possibilities(
+    alloc: Global,
+    name: &InternalName,
+    ns: Option<&InternalName>,
+) -> Mem<NonEmpty<InternalName>>
+    ensures { IfOk result (λ names. names ≡ possibilities (option_copied ns.entry) name.now) }
+{
+    let tail = other_possibilities(alloc, name, ns)?;
+    let head = name.dup(alloc)?.qualify_with(alloc, ns)?;
+    Ok(NonEmpty { head, tail })
 }
 
 /// What the name may stand for where its first possibility is not declared.

@@ -8,4 +8,4 @@ pub read_members-loop-key-preserved : goal.read_members-loop-key-preserved
 read_members-loop-key-preserved t c =
     let shape = rw c.in_ok-attribute.ensures.ok at c.read_attribute.ensures.shape in
     let clean = rw c.in_ok-attribute.ensures.ok at c.read_attribute.ensures.clean in
-    ReadsMembers-next c.loop-key.invariant c.in-Some.ensures.steps (c.in_ok-name.ensures ∙ c.as_str-in-loop-key.ensures.value, shape) (under-none _ _ clean) c.in_ok-put.ensures.ok
+    ReadsMembers-next c.loop-key.invariant c.in-Some.ensures.steps (c.as_str-in-loop-key.ensures.value, shape) (under-none _ _ clean) c.in_ok-put_at.ensures
