@@ -1,6 +1,7 @@
 -- SPDX-License-Identifier: Apache-2.0
 pub mod FoundTargets
 pub mod Gains
+pub mod Indexed
 pub mod Looked
 pub mod QualifiedNames
 pub mod Targeted

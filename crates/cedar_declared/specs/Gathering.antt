@@ -18,6 +18,7 @@ use Rattle.cedar_definitions.specs.declared.structures.ValidatorSchemaFragment.{
 use Rattle.cedar_declared.specs.Names.{Names}
 use Rattle.cedar_declared.specs.TypeNames.{with_name}
 use Rattle.cedar_declared.specs.declared.all_defs.AllDefs.{AllDefs}
+use Rattle.cedar_declared.specs.declared.gathered.Gathered.{Gathered}
 use Rattle.cedar_declared.specs.declared.type_names.TypeNames.{TypeNames}
 
 -- the order of actions
@@ -55,6 +56,15 @@ module _ {N A : Type 0} {R : ref_name.Ghosts N} where
     common_types = flat_map (λ d. map (λ e. components e.0) d.common_types.defs) ds;
     actions = flat_map (λ d. map (λ e. uid_in e.0) d.actions.actions) ds;
   }
+
+-- gathered names as declared ones
+abbrev pub gathered : Global → Gathered → AllDefs
+gathered alloc g = record {
+  alloc = alloc;
+  entity_types = g.entity_types;
+  common_types = g.common_types;
+  actions = g.actions;
+}
 
 -- no names
 abbrev pub no_names : Global → AllDefs

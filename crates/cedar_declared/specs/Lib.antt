@@ -1,4 +1,5 @@
 -- SPDX-License-Identifier: Apache-2.0
+pub mod Alone
 pub mod Gathering
 pub mod Held
 pub mod Names

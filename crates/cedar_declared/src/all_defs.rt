@@ -5,8 +5,9 @@ ghost use Rattle.cedar_schema_error.specs.FullNames.{uid_in};
 ghost use Rattle.cedar_declared.specs.Held.{names_of};
 ghost use Rattle.cedar_declared.specs.Names.{is_action, is_common, is_entity};
 
+use crate::action_names::ActionNames;
 use crate::type_names::TypeNames;
-use cedar_data::{Dup, Mem, Set};
+use cedar_data::{Dup, Mem};
 use cedar_names::{EntityUID, InternalName};
 use std::alloc::Global;
 
@@ -16,7 +17,7 @@ pub struct AllDefs {
     pub(crate) alloc: Global,
     pub(crate) entity_types: TypeNames,
     pub(crate) common_types: TypeNames,
-    pub(crate) actions: Set<EntityUID>,
+    pub(crate) actions: ActionNames,
 }
 
 impl AllDefs {

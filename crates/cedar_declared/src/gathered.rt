@@ -2,11 +2,12 @@
 ghost use Rattle.std.specs.Prelude.{◌≡◌, fold, OnOk, IfOk};
 ghost use Rattle.std.specs.List.{flat_map};
 ghost use Rattle.cedar_definitions.specs.Structures.{definitions_of};
-ghost use Rattle.cedar_declared.specs.Gathering.{declared_names, no_names, with_actions, with_common_types, with_definition, with_entity_types, with_fragment};
+ghost use Rattle.cedar_declared.specs.Gathering.{declared_names, gathered, no_names, with_actions, with_common_types, with_definition, with_entity_types, with_fragment};
 ghost use Rattle.cedar_declared.specs.Held.{names_of};
 ghost use Rattle.cedar_declared.specs.Names.{SameNames};
 ghost use Rattle.cedar_declared.specs.TypeNames.{with_name};
 
+use crate::action_names::ActionNames;
 use crate::all_defs::AllDefs;
 use crate::type_names::TypeNames;
 use cedar_data::{Dup, Map, Mem, Set};
@@ -58,13 +59,20 @@ fn insert_actions<V>(
     Ok(())
 }
 
-impl AllDefs {
+/// The names of some definitions, before their actions are indexed.
+#[derive(Drop)]
+struct Gathered {
+    entity_types: TypeNames,
+    common_types: TypeNames,
+    actions: Set<EntityUID>,
+}
+
+impl Gathered {
     /// No names. It takes no memory.
-    fn none(alloc: Global) -> AllDefs
-        ensures { result ≡ no_names alloc }
+    fn none(alloc: Global) -> Gathered
+        ensures { gathered alloc result ≡ no_names alloc }
     {
-        AllDefs {
-            alloc,
+        Gathered {
             entity_types: TypeNames::none(alloc),
             common_types: TypeNames::none(alloc),
             actions: Set::new(alloc),
@@ -77,7 +85,8 @@ impl AllDefs {
         alloc: Global,
         definition: &ValidatorNamespaceDef<N, A>,
     ) -> Mem<()>
-        ensures { OnOk result (self.new ≡ with_definition self.old definition.now) }
+        ensures { OnOk result (gathered alloc self.new
+            ≡ with_definition (gathered alloc self.old) definition.now) }
     {
         insert_entity_types(alloc, &mut self.entity_types, &definition.entity_types.defs)?;
         insert_common_types(alloc, &mut self.common_types, &definition.common_types.defs)?;
@@ -91,7 +100,8 @@ impl AllDefs {
         alloc: Global,
         fragment: &ValidatorSchemaFragment<N, A>,
     ) -> Mem<()>
-        ensures { OnOk result (self.new ≡ with_fragment self.old fragment.now) }
+        ensures { OnOk result (gathered alloc self.new
+            ≡ with_fragment (gathered alloc self.old) fragment.now) }
     {
         for definition in fragment.definitions() {
             self.insert_definition(alloc, definition)?;
@@ -100,19 +110,35 @@ impl AllDefs {
     }
 
     /// The names of all fragments.
-    fn gather<N: RefName + Ord, A: Ord>(
+    fn of_all<N: RefName + Ord, A: Ord>(
         alloc: Global,
         fragments: &[ValidatorSchemaFragment<N, A>],
-    ) -> Mem<AllDefs>
-        ensures { IfOk result (λ all. all ≡ fold with_fragment (no_names alloc) fragments.now) }
+    ) -> Mem<Gathered>
+        ensures { IfOk result (λ all. gathered alloc all
+            ≡ fold with_fragment (no_names alloc) fragments.now) }
     {
-        let mut all = AllDefs::none(alloc);
+        let mut all = Gathered::none(alloc);
         for fragment in fragments {
             all.insert_fragment(alloc, fragment)?;
         }
         Ok(all)
     }
 
+    /// The names with their actions indexed.
+    fn indexed(self, alloc: Global) -> Mem<AllDefs>
+        ensures { IfOk result (λ all. all ≡ gathered alloc self) }
+    {
+        let actions = ActionNames::new(alloc, self.actions)?;
+        Ok(AllDefs {
+            alloc,
+            entity_types: self.entity_types,
+            common_types: self.common_types,
+            actions,
+        })
+    }
+}
+
+impl AllDefs {
     /// The names that the definitions of fragments declare.
     pub fn new<N: RefName + Ord, A: Ord>(
         alloc: Global,
@@ -121,7 +147,8 @@ impl AllDefs {
         ensures { IfOk result (λ all. SameNames (names_of all)
             (declared_names (flat_map definitions_of fragments.now))) }
     {
-        let all = AllDefs::gather(alloc, fragments)?;
+        let names = Gathered::of_all(alloc, fragments)?;
+        let all = names.indexed(alloc)?;
         Ok(all)
     }
 
@@ -133,8 +160,9 @@ impl AllDefs {
         ensures { IfOk result (λ all. SameNames (names_of all)
             (declared_names (definitions_of fragment.now))) }
     {
-        let mut all = AllDefs::none(alloc);
-        all.insert_fragment(alloc, fragment)?;
+        let mut names = Gathered::none(alloc);
+        names.insert_fragment(alloc, fragment)?;
+        let all = names.indexed(alloc)?;
         Ok(all)
     }
 }

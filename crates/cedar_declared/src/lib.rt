@@ -2,6 +2,7 @@
 //! The declared names of a schema, and what each reference means among them.
 #![tactic(auto)]
 
+mod action_names;
 mod all_defs;
 mod fully_qualify;
 mod gathered;

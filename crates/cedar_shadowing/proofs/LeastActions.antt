@@ -13,8 +13,9 @@ use Rattle.cedar_names.proofs.NameOrder.{words_cmp-equal}
 use Rattle.cedar_names.specs.Order.{word_cmp, words_cmp}
 use Rattle.cedar_names.specs.OrderLaws.{words-total}
 use Rattle.cedar_schema_error.specs.FullNames.{FullName, Uid, is_qualified, uid_cmp}
+use Rattle.cedar_declared.specs.Alone.{is_alone, pick_all}
 use Rattle.cedar_declared.specs.Names.{Names, is_action}
-use Rattle.cedar_shadowing.specs.Picking.{is_alone, least_shadowing_action, pick_all, shadowed_action, shadowing_action_cmp, shadows_action}
+use Rattle.cedar_shadowing.specs.Picking.{least_shadowing_action, shadowed_action, shadowing_action_cmp, shadows_action}
 use Rattle.cedar_shadowing.specs.Shadowing.{IsLeastPair, NoPair, ShadowsAction}
 use Rattle.cedar_shadowing.proofs.LeastTypes.{and_first, and_second, both_true, equal_when, not_false}
 use Rattle.cedar_shadowing.proofs.Picked.{IsBest, Stands, best_of}

@@ -1,5 +1,4 @@
 -- SPDX-License-Identifier: Apache-2.0
-pub mod Indexed
 pub mod LeastActions
 pub mod LeastTypes
 pub mod LookedUp

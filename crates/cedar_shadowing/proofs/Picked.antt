@@ -7,7 +7,7 @@ use Rattle.std.specs.Ordering.{is_lt}
 use Rattle.std.specs.declared.cmp.Ordering.{Ordering}
 use Rattle.std.specs.declared.cmp.Ordering.TheVariants.{Less, Equal, Greater}
 use Rattle.cedar_data.specs.Firsts.{SomePasses}
-use Rattle.cedar_shadowing.specs.Picking.{pick, pick_all}
+use Rattle.cedar_declared.specs.Alone.{pick, pick_all}
 
 -- it stands in the list
 abbrev pub Stands : {A : Type 0} → List A → A → Type 0

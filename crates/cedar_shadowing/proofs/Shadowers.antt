@@ -4,16 +4,20 @@ use Rattle.std.proofs.Common.{◌≡◌, ◌↔◌, ◌++◌, ◌&&◌, Bool, tr
 use Rattle.std.specs.List.{filter}
 use Rattle.std.specs.Ordering.{ordering_then}
 use Rattle.std.specs.declared.cmp.Ordering.{Ordering}
-use Rattle.cedar_names.specs.Components.{basename_of, components, has_cedar, internal_name, namespace_of}
+use Rattle.cedar_names.specs.Components.{basename_of, components, has_cedar, loc_of, namespace_of}
 use Rattle.cedar_names.specs.Identifiers.{id_word, id_words}
 use Rattle.cedar_names.specs.Order.{word_cmp, words_cmp}
 use Rattle.cedar_names.specs.declared.id.Id.{Id}
 use Rattle.cedar_names.specs.declared.internal_name.InternalName.{InternalName}
 use Rattle.cedar_written.specs.declared.reference_type.ReferenceType.TheVariants.{CommonOrEntity}
 use Rattle.cedar_schema_error.specs.FullNames.{FullName, basename, is_qualified}
+use Rattle.cedar_schema_error.specs.NameTexts.{range}
 use Rattle.cedar_schema_error.specs.Refusals.{TypeShadowing}
+use Rattle.cedar_declared.specs.Alone.{pick_all, precedes}
 use Rattle.cedar_declared.specs.Names.{Names, is_declared}
-use Rattle.cedar_shadowing.specs.Picking.{least_shadowing, pick_all, precedes, shadowing_cmp, shadows_type}
+use Rattle.cedar_declared.specs.TypeNames.{place_alone}
+use Rattle.cedar_declared.specs.declared.all_defs.AllDefs.{AllDefs}
+use Rattle.cedar_shadowing.specs.Picking.{least_shadowing, shadowing_cmp, shadows_type}
 
 last_word : (ids : List Id) (id : Id) → basename (id_words (ids ++ id ∷ [])) ≡ id_word id
 last_word [] id = refl
@@ -84,9 +88,15 @@ least_of_both own es cs first last entity common before behind =
     ∙ ap (λ best. least_shadowing own best own.common_types) (before ∙ same_picks own None (map components es) own.entity_types entity)
 
 -- what the error tells
-pub told_shadowing : (n : InternalName) (i : Id) (a b : InternalName) → i ≡ basename_of n → a ≡ internal_name i [] None → b ≡ n → TypeShadowing (components a) (components b) ≡ TypeShadowing (basename (components n) ∷ []) (components n)
+pub told_shadowing : (n : InternalName) (i : Id) (a b : InternalName) → i ≡ basename_of n → components a ≡ id_word i ∷ [] → b ≡ n → TypeShadowing (components a) (components b) ≡ TypeShadowing (basename (components n) ∷ []) (components n)
 told_shadowing n i a b base made copied =
-    let alone : components a ≡ basename (components n) ∷ [] = ap components made ∙ ap (λ i. id_word i ∷ []) base ∙ ap (λ w. w ∷ []) (sym (basename_is n)) in
+    let alone : components a ≡ basename (components n) ∷ [] = made ∙ ap (λ i. id_word i ∷ []) base ∙ ap (λ w. w ∷ []) (sym (basename_is n)) in
     (λ k. TypeShadowing (alone k) (components (copied k)))
+
+-- the places that it tells
+pub placed_shadowing : (d : AllDefs) (n : InternalName) (i : Id) (a b : InternalName) → i ≡ basename_of n → loc_of a ≡ place_alone d i → b ≡ n → range (loc_of a) ++ range (loc_of b) ≡ range (place_alone d (basename_of n)) ++ range (loc_of n)
+placed_shadowing d n i a b base made copied =
+    let place : loc_of a ≡ place_alone d (basename_of n) = made ∙ ap (place_alone d) base in
+    (λ k. range (place k) ++ range (loc_of (copied k)))
 
 pub ruleset shadowers = (alone_shadows_none, reserved_shadows_none, other_shadows, least_of_both)

@@ -1,5 +1,5 @@
 // SPDX-License-Identifier: Apache-2.0
-ghost use Rattle.std.specs.Prelude.{IfOk};
+ghost use Rattle.std.specs.Prelude.{IfOk, IsOk};
 ghost use Rattle.cedar_data.specs.Answers.{IfRefused};
 ghost use Rattle.cedar_data.specs.Firsts.{AllPass, FirstRefused};
 ghost use Rattle.cedar_schema_error.specs.Told.{told};
@@ -22,10 +22,11 @@ pub trait ShadowingChecks {
 
     /// Refused where a declared type of a namespace, without `__cedar`, has the basename of a declared type without a
     /// namespace: with the least such type that is shadowed, and the least that shadows it. Else refused likewise for
-    /// actions of one id.
+    /// actions of one id. Memory is wanted only where it refuses.
     fn rfc_70_shadowing_checks(&self, alloc: Global) -> Out<(), SchemaError>
         ensures ok { IfOk result (λ _. AllPass (ShadowPasses (own self.now)) shadow_phases) }
-        ensures refused { IfRefused result (λ e. FirstRefused (ShadowPasses (own self.now)) (ShadowRefuses (own self.now)) shadow_phases (told e)) };
+        ensures refused { IfRefused result (λ e. FirstRefused (ShadowPasses (own self.now)) (ShadowRefuses (own self.now)) shadow_phases (told e)) }
+        ensures sure { AllPass (ShadowPasses (own self.now)) shadow_phases → IsOk result };
 }
 
 impl ShadowingChecks for AllDefs {
@@ -34,14 +35,13 @@ impl ShadowingChecks for AllDefs {
     #[tactic(auto, using(crate::proofs::Phases::phases))]
     fn rfc_70_shadowing_checks(&self, alloc: Global) -> Out<(), SchemaError> {
         if let Some(shadowing) = least_type(self) {
-            let error = type_shadowing(alloc, shadowing)?;
+            let error = type_shadowing(alloc, self, shadowing)?;
             return Err(Failure::Refused(error));
         }
-        match least_action(alloc, self)? {
-            None => Ok(()),
-            Some((shadowed, shadowing)) => {
-                Err(Failure::Refused(action_shadowing(shadowed, shadowing)))
-            }
+        if let Some(shadowing) = least_action(self) {
+            let error = action_shadowing(alloc, self, shadowing)?;
+            return Err(Failure::Refused(error));
         }
+        Ok(())
     }
 }

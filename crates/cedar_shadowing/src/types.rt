@@ -1,14 +1,17 @@
 // SPDX-License-Identifier: Apache-2.0
 //! The least type that shadows another. It is found in one pass, and without memory.
-ghost use Rattle.std.specs.Prelude.{◌≡◌, [], ◌∷◌, None, map, IfOk, MatchOption};
+ghost use Rattle.std.specs.Prelude.{◌≡◌, [], ◌∷◌, ◌++◌, None, map, IfOk, MatchOption};
 ghost use Rattle.std.specs.Option.{option_copied, option_map};
 ghost use Rattle.std.specs.Ordering.{is_lt};
-ghost use Rattle.cedar_names.specs.Components.{components};
+ghost use Rattle.cedar_names.specs.Components.{basename_of, components, loc_of};
 ghost use Rattle.cedar_names.specs.Order.{words_cmp};
+ghost use Rattle.cedar_schema_error.specs.ErrorPlaces.{places_of};
 ghost use Rattle.cedar_schema_error.specs.FullNames.{basename};
+ghost use Rattle.cedar_schema_error.specs.NameTexts.{range};
 ghost use Rattle.cedar_schema_error.specs.Refusals.{TypeShadowing};
 ghost use Rattle.cedar_schema_error.specs.Told.{told};
 ghost use Rattle.cedar_declared.specs.Held.{names_of};
+ghost use Rattle.cedar_declared.specs.TypeNames.{place_alone};
 ghost use Rattle.cedar_shadowing.specs.Shadowing.{IsLeastPair, NoPair, ShadowsType};
 ghost use Rattle.cedar_shadowing.specs.Picking.{least_shadowing, shadowing_cmp, shadows_type};
 
@@ -112,12 +115,18 @@ pub(crate) fn least_type(all_defs: &AllDefs) -> Option<&InternalName>
     least_name(all_defs)
 }
 
-/// The error that a type shadows its basename.
-pub(crate) fn type_shadowing(alloc: Global, shadowing: &InternalName) -> Mem<SchemaError>
-    ensures { IfOk result (λ e. told e ≡ TypeShadowing (basename (components shadowing.now) ∷ []) (components shadowing.now)) }
+/// The error that a type shadows its basename, with the places of both.
+pub(crate) fn type_shadowing(
+    alloc: Global,
+    all_defs: &AllDefs,
+    shadowing: &InternalName,
+) -> Mem<SchemaError>
+    ensures told { IfOk result (λ e. told e
+        ≡ TypeShadowing (basename (components shadowing.now) ∷ []) (components shadowing.now)) }
+    ensures places { IfOk result (λ e. places_of e
+        ≡ range (place_alone all_defs.now (basename_of shadowing.now)) ++ range (loc_of shadowing.now)) }
 {
-    let id = shadowing.basename().dup(alloc)?;
-    let shadowed_def = InternalName::unqualified_name(alloc, id, None);
+    let shadowed_def = all_defs.name_alone(alloc, shadowing.basename())?;
     let shadowing_def = shadowing.dup(alloc)?;
     Ok(SchemaError::TypeShadowing(TypeShadowingError {
         shadowed_def,

@@ -3,6 +3,7 @@
 use Rattle.std.proofs.Common.{◌≡◌, ◌&&◌, ℕ, Bool, true, false, not, cond, List, [], ◌∷◌, map, Option, Some, None, refl, sym, ap, ◌∙◌}
 use Rattle.std.proofs.lemmas.Cmp.{eq_by_cmp_equiv, nat_list_cmp_total}
 use Rattle.std.specs.BTreeMap.{is_at}
+use Rattle.std.specs.Cmp.Lexicographic.{bytes_decides, texts_ties}
 use Rattle.std.specs.Map.{lookup}
 use Rattle.std.specs.Option.{option_map}
 use Rattle.std.specs.Ordering.{is_eq}
@@ -12,13 +13,15 @@ use Rattle.cedar_names.specs.Order.{word_cmp}
 use Rattle.cedar_names.specs.declared.entity_uid.Eid.{Eid}
 use Rattle.cedar_names.specs.declared.entity_uid.EntityUID.{EntityUID}
 use Rattle.cedar_schema_error.specs.FullNames.{Uid, is_qualified, uid_cmp, uid_in}
-use Rattle.cedar_shadowing.specs.Picking.{Indexes, eid_cmp, improves, indexed, is_alone, pick, pick_all, precedes}
-use Rattle.cedar_shadowing.proofs.LeastActions.{word_equal}
-use Rattle.cedar_shadowing.proofs.LeastTypes.{equal_when}
+use Rattle.cedar_declared.specs.Alone.{Indexes, eid_cmp, improves, indexed, is_alone, least_alone, pick, pick_all, precedes}
 
 -- a loop over `whole` that has `left` before it has made this index: what those that are left improve is what all give
 pub record Indexing (whole left : List EntityUID) (index : List (Eid × EntityUID)) : Type 0 where
-  pub is : (id : Eid) → pick_all (is_alone (eid_text id)) uid_cmp (indexed index id) (map uid_in left) ≡ pick_all (is_alone (eid_text id)) uid_cmp None (map uid_in whole)
+  pub is : (id : Eid) → pick_all (is_alone (eid_text id)) uid_cmp (indexed index id) (map uid_in left) ≡ least_alone (map uid_in whole) (eid_text id)
+
+-- equal words are one
+same_word : (x y : List ℕ) → is_eq (word_cmp x y) ≡ true → x ≡ y
+same_word x y e = (bytes_decides x y).0 (texts_ties x y ∙ e)
 
 -- an id is found by its text
 abbrev at_text : List (Eid × EntityUID) → List ℕ → Option Uid
@@ -39,13 +42,13 @@ module _ (index : List (Eid × EntityUID)) (u : EntityUID) (id : Eid) where
   picked true is =
       ap (λ b. cond ((not (is_qualified (uid_in u).ty) && b) && precedes (is_alone (eid_text id)) uid_cmp (uid_in u) (indexed index id)) (Some (uid_in u)) (indexed index id)) is
       ∙ by_bools (is_qualified (uid_in u).ty) (precedes (is_alone (uid_in u).id) uid_cmp (uid_in u)) (indexed index id) (indexed index (eid_of u))
-      (ap (at_text index) (word_equal (eid_text id) (eid_text (eid_of u)) (equal_when (word_cmp (eid_text id) (eid_text (eid_of u))) is)))
+      (ap (at_text index) (same_word (eid_text id) (eid_text (eid_of u)) is))
   picked false is =
       ap (λ b. cond ((not (is_qualified (uid_in u).ty) && b) && precedes (is_alone (eid_text id)) uid_cmp (uid_in u) (indexed index id)) (Some (uid_in u)) (indexed index id)) is
       ∙ by_others (is_qualified (uid_in u).ty) (precedes (is_alone (eid_text id)) uid_cmp (uid_in u) (indexed index id)) (indexed index id)
 
   same_found : (b : Bool) → is_at (word_cmp (eid_text id)) (uid_in u).id ≡ b → cond b (indexed index (eid_of u)) (indexed index id) ≡ indexed index id
-  same_found true is = sym (ap (at_text index) (word_equal (eid_text id) (eid_text (eid_of u)) (equal_when (word_cmp (eid_text id) (eid_text (eid_of u))) is)))
+  same_found true is = sym (ap (at_text index) (same_word (eid_text id) (eid_text (eid_of u)) is))
   same_found false is = refl
 
   -- where it improves nothing, the index stays

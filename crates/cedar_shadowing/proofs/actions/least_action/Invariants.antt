@@ -4,7 +4,7 @@ use Rattle.std.specs.Option.{option_copied, option_map}
 use Rattle.cedar_schema_error.specs.FullNames.{uid_in}
 use Rattle.cedar_declared.specs.Held.{names_of}
 use Rattle.cedar_shadowing.specs.Picking.{least_shadowing_action}
-use Rattle.cedar_shadowing.proofs.actions.least_of.Given as goal
+use Rattle.cedar_shadowing.proofs.actions.least_action.Given as goal
 
 -- the least so far, with those that are left, gives the least of all
 abbrev pub invariant-loop-action : goal.invariant-loop-action

@@ -1,7 +1,7 @@
 -- SPDX-License-Identifier: Apache-2.0
 use Rattle.std.proofs.Common.{◌∙◌}
-use Rattle.cedar_shadowing.proofs.Indexed.{Indexing-put}
-use Rattle.cedar_shadowing.proofs.actions.index_alone.Goals as goal
+use Rattle.cedar_declared.proofs.Indexed.{Indexing-put}
+use Rattle.cedar_declared.proofs.action_names.index_alone.Goals as goal
 
 pub loop-action-preserved-in-Continue-branch-3 : goal.loop-action-preserved-in-Continue-branch-3
 loop-action-preserved-in-Continue-branch-3 c =
