@@ -84,4 +84,14 @@ impl Nested {
             depth: depth + 1,
         }))
     }
+
+    /// The attribute of this type.
+    pub(crate) fn attribute(self, is_required: bool) -> AttributeType
+        ensures { result ≡ record { attr_type = self.ty; is_required = is_required } }
+    {
+        AttributeType {
+            attr_type: self.ty,
+            is_required,
+        }
+    }
 }

@@ -10,7 +10,7 @@ use crate::node::{Looked, TypeNode};
 use crate::steps::Steps;
 use cedar_data::{Dup, Map, Mem};
 use cedar_names::InternalName;
-use cedar_types::{AttributeType, Type};
+use cedar_types::Type;
 use std::alloc::Global;
 use std::sync::ledger::Ledger;
 
@@ -68,12 +68,8 @@ fn unfolded_record<T: TypeNode, L: Ledger>(
             return Ok(None);
         };
         depth = depth.max(part.depth);
-        let attribute = AttributeType {
-            attr_type: part.ty,
-            is_required: required,
-        };
         let copy = name.dup(alloc)?;
-        made.push_last(copy, attribute)?;
+        made.push_last(copy, part.attribute(required))?;
         after = Some(name);
     }
     Nested::record(alloc, made, depth)

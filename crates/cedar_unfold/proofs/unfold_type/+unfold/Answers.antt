@@ -47,7 +47,9 @@ unfolded_record-loop-name-preserved g t c =
           (record { attr_type = c.in-Some-2.part.ty; is_required = c.in-Some.required }) c.push_last.new.self c.max-depth.result
           (sym c.in_ok-part.ensures.is ∙ ap found_type c.in-Some-2.is)
           refl
-          (c.in_ok-push_last.ensures.ok ∙ ap (λ k. c.loop-name.made ++ (k, record { attr_type = c.in-Some-2.part.ty; is_required = c.in-Some.required }) ∷ []) c.in_ok-copy.ensures)
+          (c.in_ok-push_last.ensures.ok
+          ∙ ap (λ a. c.loop-name.made ++ (c.in_ok-copy.copy, a) ∷ []) c.attribute.ensures
+          ∙ ap (λ k. c.loop-name.made ++ (k, record { attr_type = c.in-Some-2.part.ty; is_required = c.in-Some.required }) ∷ []) c.in_ok-copy.ensures)
           (c.max-depth.ensures ∙ ap (max c.loop-name.depth) c.in-Some-2.part.measured),
       omega (arith, left, c.loop-name.invariant.1, c.in_ok-part.ensures.counts),
     )
