@@ -21,7 +21,7 @@ impl ValidatorNamespaceDef<ConditionalName, ConditionalName> {
     ) -> Mem<ValidatorNamespaceDef<ConditionalName, ConditionalName>>
         ensures { IfOk result (λ d. IsOfCommonTypes namespace defs.entries d) }
     {
-        let types = common_types_in(alloc, namespace.as_ref(), Map::from_map(defs))?;
+        let types = named_in(alloc, namespace.as_ref(), Map::from_map(defs))?;
         Ok(of_common_types(alloc, namespace, types))
     }
 
@@ -34,9 +34,7 @@ impl ValidatorNamespaceDef<ConditionalName, ConditionalName> {
     ) -> Mem<ValidatorNamespaceDef<ConditionalName, ConditionalName>>
         ensures { IfOk result (λ d. IsOfCommonTypes namespace ((id, def) ∷ []) d) }
     {
-        let mut types = Map::new(alloc);
-        let name = name_in(alloc, namespace.as_ref(), id)?;
-        types.put(name, def)?;
+        let types = named_alone(alloc, namespace.as_ref(), id, def)?;
         Ok(of_common_types(alloc, namespace, types))
     }
 }
@@ -71,18 +69,33 @@ fn name_in(alloc: Global, namespace: Option<&InternalName>, id: UnreservedId) ->
     Ok(name)
 }
 
-/// The common types under their names in the namespace.
-fn common_types_in(
+/// This alone, under its name in the namespace.
+fn named_alone<T: Drop>(
     alloc: Global,
     namespace: Option<&InternalName>,
-    defs: Map<UnreservedId, SchemaType<ConditionalName>>,
-) -> Mem<Map<InternalName, SchemaType<ConditionalName>>>
+    id: UnreservedId,
+    value: T,
+) -> Mem<Map<InternalName, T>>
+    ensures { IfOk result (λ m. m ≡ map_of internal_cmp (named_types (option_copied namespace.entry) ((id, value) ∷ []))) }
+{
+    let mut named = Map::new(alloc);
+    let name = name_in(alloc, namespace, id)?;
+    named.put(name, value)?;
+    Ok(named)
+}
+
+/// What stands under identifiers, under their names in the namespace.
+fn named_in<T: Drop>(
+    alloc: Global,
+    namespace: Option<&InternalName>,
+    defs: Map<UnreservedId, T>,
+) -> Mem<Map<InternalName, T>>
     ensures { IfOk result (λ m. m ≡ map_of internal_cmp (named_types (option_copied namespace.entry) defs)) }
 {
-    let mut types = Map::new(alloc);
-    for (id, ty) in defs.into_entries() {
+    let mut named = Map::new(alloc);
+    for (id, value) in defs.into_entries() {
         let name = name_in(alloc, namespace, id)?;
-        types.put(name, ty)?;
+        named.put(name, value)?;
     }
-    Ok(types)
+    Ok(named)
 }

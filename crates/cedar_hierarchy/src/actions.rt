@@ -55,12 +55,19 @@ fn types_meant(
     Ok(types)
 }
 
+/// The type of the context of an action, where a use tells it.
+fn told_context(alloc: Global, uid: &EntityUID, uses: &Uses) -> Mem<Option<Type>>
+    ensures { IfOk result (λ ty. ty ≡ type_at_use uses.now (Context uid.now)) }
+{
+    let place = UsePlace::Context(uid.dup(alloc)?);
+    copy_at(alloc, uses, &place)
+}
+
 /// The type of the context of an action: an empty record where no use tells it.
 fn context_of(alloc: Global, uid: &EntityUID, uses: &Uses) -> Mem<Type>
     ensures { IfOk result (λ ty. ty ≡ context_at_use (type_at_use uses.now (Context uid.now))) }
 {
-    let place = UsePlace::Context(uid.dup(alloc)?);
-    match copy_at(alloc, uses, &place)? {
+    match told_context(alloc, uid, uses)? {
         Some(ty) => Ok(ty),
         None => {
             let none = Attributes::from_map(Map::new(alloc));

@@ -13,9 +13,8 @@ use Rattle.cedar_names.specs.Names.{entity_cmp}
 use Rattle.cedar_names.specs.declared.entity_uid.EntityUID.{EntityUID}
 use Rattle.cedar_names.specs.declared.name.EntityType.{EntityType}
 use Rattle.cedar_schema_error.specs.declared.use_place.UsePlace.TheVariants.{Shape, Tags, Context}
-use Rattle.cedar_tables.specs.Declarations.{Action}
+use Rattle.cedar_tables.specs.Declarations.{Action, PlacedEntity}
 use Rattle.cedar_tables.specs.Splits.{Use, all_uses, context_use, fragment_shape, fragment_tags, shape_use, tags_use, use_cmp}
-use Rattle.cedar_tables.specs.declared.declarations.PlacedEntity.{PlacedEntity}
 
 module _ {X : Type 0} where
   -- what holds of every item holds of these

@@ -11,9 +11,8 @@ use Rattle.cedar_declared.specs.Gathering.{action_cmp}
 use Rattle.cedar_names.specs.Names.{entity_cmp}
 use Rattle.cedar_names.specs.declared.entity_uid.EntityUID.{EntityUID}
 use Rattle.cedar_names.specs.declared.name.EntityType.{EntityType}
-use Rattle.cedar_tables.specs.Declarations.{Action}
+use Rattle.cedar_tables.specs.Declarations.{Action, PlacedEntity}
 use Rattle.cedar_tables.specs.Splits.{Use, action_outline_of, context_use, outline_of, shape_use, tags_use}
-use Rattle.cedar_tables.specs.declared.declarations.PlacedEntity.{PlacedEntity}
 use Rattle.cedar_tables.specs.declared.outlines.ActionOutline.{ActionOutline}
 use Rattle.cedar_tables.specs.declared.outlines.EntityOutline.{EntityOutline}
 use Rattle.cedar_tables.proofs.Appended.{Appends, Appends-end, Appends-next, Appends-start}

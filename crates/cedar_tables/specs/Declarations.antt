@@ -19,7 +19,7 @@ use Rattle.cedar_world.specs.DefinitionViews.{kind_in}
 use Rattle.cedar_world.specs.Definitions.{EntityDefinition}
 use Rattle.cedar_written.specs.declared.conditional_name.ConditionalName.{ConditionalName}
 use Rattle.cedar_written.specs.declared.ty.SchemaType.{SchemaType}
-use Rattle.cedar_tables.specs.declared.declarations.PlacedEntity.{PlacedEntity}
+use Rattle.cedar_tables.specs.declared.declarations.Placed.{Placed}
 
 -- the definitions of a namespace
 abbrev pub Definition : Type 0
@@ -29,9 +29,17 @@ Definition = ValidatorNamespaceDef ConditionalName ConditionalName over_conditio
 abbrev pub Action : Type 0
 Action = ActionFragment ConditionalName ConditionalName over_conditional
 
+-- an entity type with a place
+abbrev pub PlacedEntity : Type 0
+PlacedEntity = Placed (EntityTypeFragment ConditionalName)
+
+-- what stands under a name, with the place at that name
+abbrev pub placed_by : {T : Type 0} → List (EntityType × Loc) → EntityType × T → EntityType × Placed T
+placed_by locs e = (e.0, record { fragment = e.1; loc = get entity_cmp locs e.0 })
+
 -- an entity type of a definition, with the place that the definition has at its name
 abbrev pub placed : EntityTypesDef ConditionalName → EntityType × EntityTypeFragment ConditionalName → EntityType × PlacedEntity
-placed types e = (e.0, record { fragment = e.1; loc = get entity_cmp types.locs e.0 })
+placed types e = placed_by types.locs e
 
 -- the entity types of a definition, so
 abbrev pub placed_types : EntityTypesDef ConditionalName → List (EntityType × PlacedEntity)

@@ -16,8 +16,7 @@ use Rattle.cedar_schema_error.specs.declared.use_place.UsePlace.TheVariants.{Sha
 use Rattle.cedar_text.specs.declared.location.Loc.{Loc}
 use Rattle.cedar_written.specs.declared.conditional_name.ConditionalName.{ConditionalName}
 use Rattle.cedar_written.specs.declared.ty.SchemaType.{SchemaType}
-use Rattle.cedar_tables.specs.Declarations.{Action, Definition, actions_of, fragments_of}
-use Rattle.cedar_tables.specs.declared.declarations.PlacedEntity.{PlacedEntity}
+use Rattle.cedar_tables.specs.Declarations.{Action, Definition, PlacedEntity, actions_of, fragments_of}
 use Rattle.cedar_tables.specs.declared.outlines.ActionOutline.{ActionOutline}
 use Rattle.cedar_tables.specs.declared.outlines.EntityOutline.{EntityOutline}
 
@@ -48,7 +47,7 @@ fragment_tags (Standard shape parents tags) = tags
 fragment_tags (Enum ids) = None
 
 -- the use of a type at a place, where there is a type
-abbrev pub use_at : UsePlace → Option (SchemaType ConditionalName) → List Use
+abbrev pub use_at : {T : Type 0} → UsePlace → Option T → List (UsePlace × T)
 use_at place ty = map (λ t. (place, t)) (option_to_list ty)
 
 -- the uses of entity types: of shapes, and of types of tags

@@ -1,8 +1,8 @@
 // SPDX-License-Identifier: Apache-2.0
-ghost use Rattle.std.specs.Prelude.{◌≡◌, ◌++◌, IfOk, OnOk};
+ghost use Rattle.std.specs.Prelude.{◌≡◌, ◌++◌, map, IfOk, OnOk};
 ghost use Rattle.cedar_data.specs.Maps.{get};
 ghost use Rattle.cedar_names.specs.Names.{entity_cmp};
-ghost use Rattle.cedar_tables.specs.Declarations.{actions_of, common_types_of, entity_types_of, placed_types};
+ghost use Rattle.cedar_tables.specs.Declarations.{actions_of, common_types_of, entity_types_of, placed_by, placed_types};
 
 use cedar_data::{Dup, Map, Mem};
 use cedar_definitions::{
@@ -22,14 +22,17 @@ pub(crate) type CommonType = (InternalName, SchemaType<ConditionalName>);
 /// An action.
 pub(crate) type Action = ActionFragment<ConditionalName, ConditionalName>;
 
-/// An entity type, and where it is declared.
+/// What stands under a name, and where it is declared.
 #[derive(Drop)]
-pub(crate) struct PlacedEntity {
+pub(crate) struct Placed<T> {
     /// What it is.
-    pub(crate) fragment: EntityTypeFragment<ConditionalName>,
+    pub(crate) fragment: T,
     /// The place of its declaration.
     pub(crate) loc: Option<Loc>,
 }
+
+/// An entity type, and where it is declared.
+pub(crate) type PlacedEntity = Placed<EntityTypeFragment<ConditionalName>>;
 
 /// What definitions declare, one after another: a name may stand several times.
 #[derive(Drop)]
@@ -65,6 +68,22 @@ fn place_at(alloc: Global, places: &Map<EntityType, Loc>, name: &EntityType) -> 
     }
 }
 
+/// Puts what stands under names behind the others, each with the place at its name.
+fn append_placed<T: Drop>(
+    alloc: Global,
+    defs: Map<EntityType, T>,
+    locs: &Map<EntityType, Loc>,
+    entries: &mut Vec<(EntityType, Placed<T>)>,
+) -> Mem<()>
+    ensures { OnOk result (entries.new.items ≡ entries.old.items ++ map (placed_by locs.now) defs) }
+{
+    for (name, fragment) in defs.into_entries() {
+        let loc = place_at(alloc, locs, &name)?;
+        entries.push((name, Placed { fragment, loc }))?;
+    }
+    Ok(())
+}
+
 /// Puts entity types behind the others, each with the place of its declaration.
 fn append_entity_types(
     alloc: Global,
@@ -74,11 +93,7 @@ fn append_entity_types(
     ensures { OnOk result (entries.new.items ≡ entries.old.items ++ placed_types types) }
 {
     let EntityTypesDef { defs, locs } = types;
-    for (name, fragment) in defs.into_entries() {
-        let loc = place_at(alloc, &locs, &name)?;
-        entries.push((name, PlacedEntity { fragment, loc }))?;
-    }
-    Ok(())
+    append_placed(alloc, defs, &locs, entries)
 }
 
 impl Declarations {

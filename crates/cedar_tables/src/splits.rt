@@ -87,11 +87,11 @@ fn entity_pieces(alloc: Global, entity: PlacedEntity) -> EntityPieces
 }
 
 /// Puts a shape behind the other uses, where there is one.
-fn push_shape(
+fn push_shape<T: Drop>(
     alloc: Global,
     name: &EntityType,
-    ty: Option<SchemaType<ConditionalName>>,
-    uses: &mut Vec<Use>,
+    ty: Option<T>,
+    uses: &mut Vec<(UsePlace, T)>,
 ) -> Mem<()>
     ensures { OnOk result (uses.new.items ≡ uses.old.items ++ use_at (place.Shape name.now) ty) }
 {
@@ -104,11 +104,11 @@ fn push_shape(
 }
 
 /// Puts a type of tags behind the other uses, where there is one.
-fn push_tags(
+fn push_tags<T: Drop>(
     alloc: Global,
     name: &EntityType,
-    ty: Option<SchemaType<ConditionalName>>,
-    uses: &mut Vec<Use>,
+    ty: Option<T>,
+    uses: &mut Vec<(UsePlace, T)>,
 ) -> Mem<()>
     ensures { OnOk result (uses.new.items ≡ uses.old.items ++ use_at (place.Tags name.now) ty) }
 {
@@ -121,11 +121,11 @@ fn push_tags(
 }
 
 /// Puts a context behind the other uses.
-fn push_context(
+fn push_context<T: Drop>(
     alloc: Global,
     uid: &EntityUID,
-    ty: SchemaType<ConditionalName>,
-    uses: &mut Vec<Use>,
+    ty: T,
+    uses: &mut Vec<(UsePlace, T)>,
 ) -> Mem<()>
     ensures { OnOk result (uses.new.items ≡ uses.old.items ++ (place.Context uid.now, ty) ∷ []) }
 {

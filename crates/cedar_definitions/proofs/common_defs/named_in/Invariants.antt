@@ -5,10 +5,10 @@ use Rattle.std.specs.Option.{option_copied}
 use Rattle.cedar_data.specs.Maps.{map_of}
 use Rattle.cedar_names.specs.Names.{internal_cmp}
 use Rattle.cedar_definitions.specs.CommonDefs.{named_types}
-use Rattle.cedar_definitions.proofs.common_defs.common_types_in.Given as goal
+use Rattle.cedar_definitions.proofs.common_defs.named_in.Given as goal
 
--- the types so far, with those that are left, are all
+-- what is named so far, with what is left, is all
 abbrev pub invariant-loop-id : goal.invariant-loop-id
-invariant-loop-id l =
-    fold (λ es pair. insert_entry internal_cmp es pair.0 pair.1) l.types (named_types (option_copied l.namespace) l.id-iterator)
+invariant-loop-id g l =
+    fold (λ es pair. insert_entry internal_cmp es pair.0 pair.1) l.named (named_types (option_copied l.namespace) l.id-iterator)
     ≡ map_of internal_cmp (named_types (option_copied l.fn.namespace) l.fn.defs)
