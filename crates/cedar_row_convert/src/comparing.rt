@@ -1,7 +1,7 @@
 // SPDX-License-Identifier: Apache-2.0
 use crate::writing::Writing;
 use cedar_convert_text::parse_cedar_schema_fragment;
-use cedar_data::{Dup, Failure, Mem, NoMemory};
+use cedar_data::{Dup, Failure, Mem, NoMemory, Out};
 use cedar_fragment::{
     ActionType, CommonType, EntityType, EntityTypeKind, Fragment, NamespaceDefinition, RawName,
 };
@@ -26,8 +26,13 @@ pub fn compare_fragments(alloc: Global, input: &str) -> Mem<String> {
 
 /// The fragment that the text declares, if it declares one.
 fn declared(alloc: Global, text: &str, extensions: &Extensions) -> Mem<Option<Fragment<RawName>>> {
-    match parse_cedar_schema_fragment(alloc, text, extensions) {
-        Ok((fragment, _warnings)) => Ok(Some(fragment)),
+    first_made(parse_cedar_schema_fragment(alloc, text, extensions))
+}
+
+/// The first of what was made, where nothing was refused.
+fn first_made<T: Drop, U: Drop, E: Drop>(made: Out<(T, U), E>) -> Mem<Option<T>> {
+    match made {
+        Ok((first, _)) => Ok(Some(first)),
         Err(Failure::Refused(_)) => Ok(None),
         Err(Failure::NoMemory) => Err(NoMemory),
     }

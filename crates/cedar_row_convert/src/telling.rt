@@ -2,7 +2,8 @@
 use crate::declarations::add_definition;
 use crate::writing::Writing;
 use cedar_convert_text::{
-    CedarSchemaParseErrors, SchemaWarning, ToJsonSchemaError, parse_cedar_schema_fragment,
+    CedarSchemaParseErrors, SchemaWarning, ToJsonSchemaError, ToJsonSchemaErrors,
+    parse_cedar_schema_fragment,
 };
 use cedar_data::{Failure, Mem, NoMemory, Out};
 use cedar_fragment::{Fragment, RawName};
@@ -92,13 +93,16 @@ fn add_errors(writing: &mut Writing, errors: &CedarSchemaParseErrors) -> Mem<()>
             let line = format!(in writing.alloc; "no schema: {errors}\n")?;
             writing.add(line.as_str())
         }
-        CedarSchemaParseErrors::JsonError(faults) => {
-            for fault in faults.iter() {
-                add_fault(writing, fault)?;
-            }
-            Ok(())
-        }
+        CedarSchemaParseErrors::JsonError(faults) => add_faults(writing, faults),
     }
+}
+
+/// Adds faults, each with its places and its help.
+pub(crate) fn add_faults(writing: &mut Writing, faults: &ToJsonSchemaErrors) -> Mem<()> {
+    for fault in faults.iter() {
+        add_fault(writing, fault)?;
+    }
+    Ok(())
 }
 
 fn add_fault(writing: &mut Writing, fault: &ToJsonSchemaError) -> Mem<()> {

@@ -4,21 +4,24 @@
 #![tactic(auto)]
 
 mod copied_schemas;
+mod hand_built;
 mod lists;
 mod schema_errors;
 mod values;
 
 use cedar_data::Mem;
 pub use copied_schemas::schema_copies;
+pub use hand_built::beside;
 pub use lists::several;
-pub use schema_errors::schema_error;
+pub use schema_errors::{error_told, schema_error, schema_of};
 use std::alloc::Global;
-pub use values::action_values;
+pub use values::{action_values, add_attributes, add_view};
 
 /// What the verb of this name answers to an input; none where there is no such verb.
-pub fn answer(alloc: Global, verb: &str, _words: &[&str], input: &str) -> Mem<Option<String>> {
+pub fn answer(alloc: Global, verb: &str, words: &[&str], input: &str) -> Mem<Option<String>> {
     let lines = match verb {
         "action-values" => action_values(alloc, input),
+        "beside" => beside(alloc, words, input),
         "schema-copies" => schema_copies(alloc, input),
         "schema-error" => schema_error(alloc, input),
         "several" => several(alloc, input),

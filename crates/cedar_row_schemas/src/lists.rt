@@ -1,7 +1,7 @@
 // SPDX-License-Identifier: Apache-2.0
 use crate::schema_errors::error_told;
 use cedar_data::{Failure, Mem, NoMemory, Out};
-use cedar_definitions::ValidatorSchemaFragment;
+use cedar_definitions::{ValidatorNamespaceDef, ValidatorSchemaFragment};
 use cedar_fragment::{Fragment, RawName};
 use cedar_listing::write_listing;
 use cedar_names::Extensions;
@@ -18,13 +18,22 @@ use std::alloc::Global;
 /// The definitions of a list of texts.
 type Definitions = Vec<ValidatorSchemaFragment<ConditionalName, ConditionalName>>;
 
+/// A definition that no text makes.
+pub type Definition = ValidatorNamespaceDef<ConditionalName, ConditionalName>;
+
 /// How many bytes a listing of a row may have.
 const ROOM: usize = 65_536;
 
 /// The listing of what the texts denote together that the input is, apart by lines `---`; or what is said of why they are
 /// refused.
 pub fn several(alloc: Global, input: &str) -> Mem<String> {
-    let made = schema_of_all(alloc, input);
+    let none = Vec::new(alloc);
+    several_beside(alloc, input, none)
+}
+
+/// The same of the texts and of these definitions behind them.
+pub(crate) fn several_beside(alloc: Global, input: &str, others: Vec<Definition>) -> Mem<String> {
+    let made = schema_of_all(alloc, input, others);
     let told = made_told(alloc, &made);
     drop(made);
     told
@@ -51,10 +60,17 @@ fn text_of(alloc: Global, bytes: &[u8]) -> Mem<String> {
     Ok(String::from_str(alloc, text)?)
 }
 
-fn schema_of_all(alloc: Global, input: &str) -> Out<ValidatorSchema, CedarSchemaError> {
+fn schema_of_all(
+    alloc: Global,
+    input: &str,
+    others: Vec<Definition>,
+) -> Out<ValidatorSchema, CedarSchemaError> {
     let extensions = Extensions::all_available(alloc)?;
     match definitions_of_all(alloc, input, &extensions) {
-        Ok(definitions) => resolved(alloc, definitions, &extensions),
+        Ok(mut definitions) => {
+            definitions.push(ValidatorSchemaFragment::from_namespaces(others))?;
+            resolved(alloc, definitions, &extensions)
+        }
         Err(failure) => Err(failure),
     }
 }

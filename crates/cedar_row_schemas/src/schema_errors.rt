@@ -28,7 +28,7 @@ pub fn schema_of(alloc: Global, input: &str) -> Out<ValidatorSchema, CedarSchema
 }
 
 /// What the calls of an error say.
-pub(crate) fn error_told(alloc: Global, error: &CedarSchemaError) -> Mem<String> {
+pub fn error_told(alloc: Global, error: &CedarSchemaError) -> Mem<String> {
     let mut lines = Lines::new(alloc);
     lines.add_line(error.to_string(alloc)?)?;
     lines.add_help(error.help(alloc)?)?;

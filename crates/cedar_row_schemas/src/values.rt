@@ -1,7 +1,7 @@
 // SPDX-License-Identifier: Apache-2.0
 use crate::schema_errors::error_told;
 use cedar_data::{Failure, Mem, NoMemory, Out};
-use cedar_definitions::{ActionFragment, ValidatorSchemaFragment};
+use cedar_definitions::ValidatorSchemaFragment;
 use cedar_fragment::{Fragment, RawName};
 use cedar_json::FragmentJson;
 use cedar_names::Extensions;
@@ -9,7 +9,7 @@ use cedar_namespace_definitions::FromSchemaFragment;
 use cedar_row_trees::{Lines, line_of};
 use cedar_schema_error::ActionBehavior;
 use cedar_schema_errors::CedarSchemaError;
-use cedar_types::{AttributeType, OpenTag, Type, TypeView};
+use cedar_types::{Attributes, OpenTag, Type, TypeView};
 use cedar_written::ConditionalName;
 use std::alloc::Global;
 
@@ -56,30 +56,25 @@ fn definitions_told(alloc: Global, definitions: &Definitions) -> Mem<String> {
     for definition in definitions.definitions() {
         for (uid, action) in definition.actions.actions.iter() {
             lines.add_line(format!(in alloc; "action {uid}")?)?;
-            add_attributes(&mut lines, action)?;
+            add_attributes(&mut lines, 1, &action.attribute_types)?;
         }
     }
     Ok(lines.into_text())
 }
 
-fn add_attributes(
-    lines: &mut Lines,
-    action: &ActionFragment<ConditionalName, ConditionalName>,
-) -> Mem<()> {
-    for (name, attribute) in action.attribute_types.iter() {
+/// Attributes so deep, each with its type below it.
+pub fn add_attributes(lines: &mut Lines, depth: usize, attributes: &Attributes) -> Mem<()> {
+    for (name, attribute) in attributes.iter() {
         let mark = if attribute.is_required { "" } else { "?" };
         let line = format!(in lines.alloc; "{name}{mark}")?;
-        lines.add_deep(1, line.as_str())?;
-        add_type(lines, 2, attribute)?;
+        lines.add_deep(depth, line.as_str())?;
+        add_view(lines, depth.saturating_add(1), &attribute.attr_type)?;
     }
     Ok(())
 }
 
-fn add_type(lines: &mut Lines, depth: usize, attribute: &AttributeType) -> Mem<()> {
-    add_view(lines, depth, &attribute.attr_type)
-}
-
-fn add_view(lines: &mut Lines, depth: usize, ty: &Type) -> Mem<()> {
+/// A type so deep, and below it the elements of a set.
+pub fn add_view(lines: &mut Lines, depth: usize, ty: &Type) -> Mem<()> {
     match ty.view() {
         TypeView::Bool => lines.add_deep(depth, "Bool"),
         TypeView::Long => lines.add_deep(depth, "Long"),
