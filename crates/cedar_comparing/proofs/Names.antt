@@ -24,7 +24,7 @@ use Rattle.cedar_names.specs.contracts.any_id.AnyIdPartialEq.TheImpl as any_eqs
 use Rattle.cedar_names.specs.contracts.id.UnreservedIdPartialEq.TheImpl as id_eqs
 use Rattle.cedar_names.specs.contracts.internal_name.InternalNamePartialEq.TheImpl as internal_eqs
 use Rattle.cedar_names.specs.contracts.name.NamePartialEq.TheImpl as path_eqs
-use Rattle.cedar_written.specs.Possibilities.{kind_of, possibilities_of, raw_name, raw_of, written}
+use Rattle.cedar_written.specs.Possibilities.{kind_of, possibilities_of, raw_name, raw_of, reference, written}
 use Rattle.cedar_written.specs.declared.reference_type.ReferenceType.{ReferenceType}
 use Rattle.cedar_written.specs.declared.reference_type.ReferenceType.TheVariants.{Common, Entity, CommonOrEntity}
 use Rattle.cedar_written.specs.contracts.conditional_name.ConditionalNamePartialEq.TheImpl as conditional_eqs
@@ -127,5 +127,5 @@ conditionals_go =
           let names = second_so (place_eqs.ghosts.eq (kind_of m) (kind_of n)) _ later in
           let heads = internals_go.alone (possibilities_of m).head (possibilities_of n).head (first_so _ _ names) in
           let tails = rest.alone (possibilities_of m).tail (possibilities_of n).tail (second_so (internal_eqs.ghosts.eq (possibilities_of m).head (possibilities_of n).head) _ names) in
-          λ i. record { raw = raws i; reference_type = places i; possibilities = record { head = heads i; tail = tails i } };
+          λ i. reference (raws i) (places i) (record { head = heads i; tail = tails i });
     }

@@ -9,7 +9,7 @@ use Rattle.cedar_names.specs.declared.annotation.Annotation.{Annotation}
 use Rattle.cedar_names.specs.declared.annotation.Annotations.{Annotations}
 use Rattle.cedar_names.specs.declared.internal_name.InternalName.{InternalName}
 use Rattle.cedar_names.specs.declared.name.Name.{Name}
-use Rattle.cedar_written.specs.Possibilities.{kind_of, possibilities_of, raw_name, raw_of, written}
+use Rattle.cedar_written.specs.Possibilities.{kind_of, possibilities_of, raw_name, raw_of, reference, written}
 use Rattle.cedar_written.specs.WrittenTypes.{TypeLayer, VariantLayer}
 use Rattle.cedar_written.specs.declared.conditional_name.ConditionalName.{ConditionalName}
 use Rattle.cedar_written.specs.declared.raw_name.RawName.{RawName}
@@ -52,7 +52,7 @@ full_unplaced names = record { head = internal_unplaced names.head; tail = map i
 
 -- a name with those
 abbrev pub conditional_unplaced : ConditionalName → ConditionalName
-conditional_unplaced n = record { raw = raw_unplaced (raw_of n); reference_type = kind_of n; possibilities = full_unplaced (possibilities_of n) }
+conditional_unplaced n = reference (raw_unplaced (raw_of n)) (kind_of n) (full_unplaced (possibilities_of n))
 
 -- ---- annotations
 

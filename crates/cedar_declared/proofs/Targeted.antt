@@ -13,9 +13,11 @@ use Rattle.cedar_names.specs.Names.{entity_words, name_of}
 use Rattle.cedar_names.specs.Order.{word_cmp, words_cmp}
 use Rattle.cedar_names.specs.declared.entity_uid.EntityUID.{EntityUID}
 use Rattle.cedar_schema_error.specs.FullNames.{FullName, uid_cmp, uid_in}
-use Rattle.std.specs.Result.{result_err}
+use Rattle.std.specs.Result.{result_err, result_ok}
 use Rattle.cedar_written.specs.Reference.{named}
+use Rattle.cedar_schema_error.specs.declared.schema_error.SchemaError.{SchemaError}
 use Rattle.cedar_schema_error.specs.declared.schema_error.SchemaError.TheVariants.{TypeNotDefined}
+use Rattle.std.specs.declared.result.Result.{Result}
 use Rattle.cedar_declared.specs.Held.{names_of}
 use Rattle.cedar_declared.specs.declared.all_defs.AllDefs.{AllDefs}
 use Rattle.std.specs.declared.result.Result.TheVariants.{Ok, Err}
@@ -55,6 +57,15 @@ refused_step names k n e is = by (found names n) is
     by : (o : Option InternalName) → Err e ≡ or_refused (record { undefined_types = leading n [] }) o → or_refused (TypeNotDefined (record { undefined_types = leading n [] })) o ≡ Err (TypeNotDefined e)
     by None is = ap (λ x. Err (TypeNotDefined x)) (sym (ap (λ r. unwrap_or (result_err r) e) is))
     by (Some r) is = absurd (subst (λ r. MatchResult r (λ v. ⊥) (λ v. Unit {0})) is tt)
+
+-- a reference that becomes a name does so by the step
+pub accepted_step : (names : Names) (k : ReferenceType) (n : ConditionalName) (r : InternalName) → Ok r ≡ resolved names n → resolving names (named k n) ≡ Ok r
+accepted_step names k n r is = by (record { undefined_types = leading n [] }) (found names n) is
+  where
+    by : (e : TypeNotDefinedError) (o : Option InternalName) → ◌≡◌ {A = Result InternalName TypeNotDefinedError} (Ok r) (or_refused e o)
+        → ◌≡◌ {A = Result InternalName SchemaError} (or_refused (TypeNotDefined e) o) (Ok r)
+    by e None is = absurd (subst (λ r. MatchResult r (λ v. Unit {0}) (λ v. ⊥)) is tt)
+    by e (Some s) is = ap (λ x. Ok x) (sym (ap (λ x. unwrap_or (result_ok x) r) is))
 
 -- no action is of a type with `__cedar`
 unreserved : (u : EntityUID) → has_cedar (entity_words (entity_type_of u)) ≡ false

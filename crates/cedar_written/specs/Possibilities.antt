@@ -31,26 +31,30 @@ possible (Some ns) n (id ∷ ids) = leading n []
 abbrev pub possibilities : Option InternalName → InternalName → NonEmpty InternalName
 possibilities ns n = possible ns n (namespace_of n)
 
+-- a written name at a place of a kind, with the full names that it may stand for
+abbrev pub reference : RawName → ReferenceType → NonEmpty InternalName → ConditionalName
+reference raw kind names = record { reference = record { raw = raw; reference_type = kind; possibilities = names } }
+
 -- a written name at a place of a kind, in the namespace ns, where there is one
 abbrev pub conditional : Option InternalName → ReferenceType → RawName → ConditionalName
-conditional ns kind raw = record { raw = raw; reference_type = kind; possibilities = possibilities ns (written raw) }
+conditional ns kind raw = reference raw kind (possibilities ns (written raw))
 
 -- a name that stands for itself alone
 abbrev pub unconditional : InternalName → ReferenceType → ConditionalName
-unconditional n kind = record { raw = raw_name n; reference_type = kind; possibilities = leading n [] }
+unconditional n kind = reference (raw_name n) kind (leading n [])
 
 -- the name as it is written
 abbrev pub raw_of : ConditionalName → RawName
-raw_of n = n.raw
+raw_of n = n.reference.raw
 
 -- the kind of its place
 abbrev pub kind_of : ConditionalName → ReferenceType
-kind_of n = n.reference_type
+kind_of n = n.reference.reference_type
 
 -- the full names that it may stand for
 abbrev pub possibilities_of : ConditionalName → NonEmpty InternalName
-possibilities_of n = n.possibilities
+possibilities_of n = n.reference.possibilities
 
 -- the one that counts first
 abbrev pub first_possibility : ConditionalName → InternalName
-first_possibility n = n.possibilities.head
+first_possibility n = n.reference.possibilities.head

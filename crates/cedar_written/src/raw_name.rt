@@ -116,11 +116,7 @@ impl RawName {
             ≡ qualified (written self) (option_copied ns.entry)) }
     {
         let possibilities = possibilities(alloc, &self.name, ns)?;
-        Ok(ConditionalName {
-            raw: self,
-            reference_type,
-            possibilities,
-        })
+        ConditionalName::of_parts(alloc, self, reference_type, possibilities)
     }
 }
 
