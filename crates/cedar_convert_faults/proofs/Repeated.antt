@@ -53,9 +53,9 @@ Seen-start all left places none whole = record { before = []; have = λ word. ap
 
 -- a name that was not seen, put at its place
 pub Seen-next : {all left rest : Names} {places places' : List (List ℕ × Loc)} (n : Node (List ℕ)) (word : List ℕ) (place : Loc) → Seen all places left → left ≡ n ∷ rest
-    → None ≡ get word_cmp places n.node → word ≡ n.node → place ≡ n.loc → Puts word_cmp places places' word place → Seen all places' rest
+    → None ≡ get word_cmp places word → word ≡ n.node → place ≡ n.loc → Puts word_cmp places places' word place → Seen all places' rest
 Seen-next {all} {left} {rest} {places} {places'} n word place r first new named placed puts =
-    let fresh : place_of r.before n.node ≡ None = sym (r.have n.node) ∙ sym new in
+    let fresh : place_of r.before n.node ≡ None = sym (r.have n.node) ∙ ap (λ w. get word_cmp places w) (sym named) ∙ sym new in
     record {
       before = r.before ++ n ∷ [];
       have = places_next places places' n word place r.before r.have fresh named placed puts;
@@ -63,10 +63,10 @@ Seen-next {all} {left} {rest} {places} {places'} n word place r first new named 
     }
 
 -- a name that was seen
-pub Seen-found : {all left rest : Names} {places : List (List ℕ × Loc)} (n : Node (List ℕ)) (place : Loc) (found : Repeat) → Seen all places left → left ≡ n ∷ rest
-    → Some place ≡ get word_cmp places n.node → found.name ≡ n.node → found.first ≡ place → found.second ≡ n.loc → Some found ≡ first_repeat all
-Seen-found {all} {left} {rest} {places} n place found r first here named one two =
-    let known : place_of r.before n.node ≡ Some place = sym (r.have n.node) ∙ sym here in
+pub Seen-found : {all left rest : Names} {places : List (List ℕ × Loc)} (n : Node (List ℕ)) (word : List ℕ) (place : Loc) (found : Repeat) → Seen all places left → left ≡ n ∷ rest
+    → Some place ≡ get word_cmp places word → word ≡ n.node → found.name ≡ n.node → found.first ≡ place → found.second ≡ n.loc → Some found ≡ first_repeat all
+Seen-found {all} {left} {rest} {places} n word place found r first here same named one two =
+    let known : place_of r.before n.node ≡ Some place = sym (r.have n.node) ∙ ap (λ w. get word_cmp places w) (sym same) ∙ sym here in
     (λ i. Some (record { name = named i; first = one i; second = two i }))
     ∙ sym (ap (λ p. repeat_or p n (repeat_behind (r.before ++ n ∷ []) rest)) known) ∙ ap (repeat_behind r.before) (sym first) ∙ r.is
 

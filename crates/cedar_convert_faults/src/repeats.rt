@@ -21,19 +21,20 @@ pub fn first_repeat(alloc: Global, names: &Items<Node<Text>>) -> Mem<Option<Repe
 {
     let mut places: Map<Text, Loc> = Map::new(alloc);
     for name in names.iter() {
-        if let Some(place) = places.get(&name.node) {
-            let first = place.dup(alloc)?;
-            let second = name.loc.dup(alloc)?;
-            let name = name.node.dup(alloc)?;
-            return Ok(Some(Repeat {
-                name,
-                first,
-                second,
-            }));
-        }
         let word = name.node.dup(alloc)?;
         let place = name.loc.dup(alloc)?;
-        places.put(word, place)?;
+        match places.insert(word, place)? {
+            None => {}
+            Some(first) => {
+                let second = name.loc.dup(alloc)?;
+                let name = name.node.dup(alloc)?;
+                return Ok(Some(Repeat {
+                    name,
+                    first,
+                    second,
+                }));
+            }
+        }
     }
     Ok(None)
 }
