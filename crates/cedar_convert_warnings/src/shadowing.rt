@@ -1,11 +1,12 @@
 // SPDX-License-Identifier: Apache-2.0
 ghost use Rattle.std.specs.Prelude.{◌≡◌, ◌++◌, map, flat_map, option_map, IfOk, OnOk};
+ghost use Rattle.std.specs.List.{list_any};
 ghost use Rattle.cedar_names.specs.Components.{components};
 ghost use Rattle.cedar_names.specs.Extensions.{extension_words};
 ghost use Rattle.cedar_tree.specs.Meanings.{annotated_tree, decl_tree, node_of, path_tree};
-ghost use Rattle.cedar_convert_faults.specs.Bindings.{names_in, names_of};
 ghost use Rattle.cedar_convert_faults.specs.Gathering.{gathered_tree};
-ghost use Rattle.cedar_convert_warnings.specs.Shadowing.{builtin_shadowed, by_words, common_shadows, entity_shadowed, namespace_entry, namespace_shadows, places_by_name, shadows, shadows_by_namespace};
+ghost use Rattle.cedar_convert_faults.specs.Repeats.{words_of};
+ghost use Rattle.cedar_convert_warnings.specs.Shadowing.{builtin_shadowed, by_words, common_shadows, entity_shadowed, is_builtin, namespace_entry, namespace_shadows, places_by_name, shadows, shadows_by_namespace};
 
 use crate::warnings::{SchemaWarning, ShadowsBuiltinWarning, ShadowsEntityWarning};
 use cedar_convert_faults::{Gathered, Kind, names_in};
@@ -15,22 +16,36 @@ use cedar_text::{Loc, Node, is_primitive_word, push_all};
 use cedar_tree::{Annotated, Declaration, Path};
 use std::alloc::Global;
 
-/// The names of this kind that declarations give, with their places, in the order of the names.
-fn places_by_name(
-    alloc: Global,
-    kind: Kind,
-    decls: &Items<Annotated<Node<Declaration>>>,
-) -> Mem<Map<Text, Loc>>
-    ensures { IfOk result (λ places. places ≡ places_by_name
-        (names_in (names_of kind) (map (annotated_tree (node_of decl_tree)) decls.now))) }
+/// The names with their places, in the order of the names. Of several of one name the last counts.
+fn places_of(alloc: Global, names: Items<Node<Text>>) -> Mem<Map<Text, Loc>>
+    ensures { IfOk result (λ places. places ≡ places_by_name names) }
 {
-    let names = names_in(alloc, kind, decls)?;
     let mut pairs = Vec::new(alloc);
     for name in names.into_vec() {
         let Node { node, loc } = name;
         pairs.push((node, loc))?;
     }
     Map::from_pairs(alloc, pairs)
+}
+
+/// Whether a builtin type has the name.
+fn is_builtin(extensions: &Extensions, name: &Text) -> bool
+    ensures { result ≡ is_builtin (extension_words extensions.now) name.now }
+{
+    let word = name.as_str();
+    is_primitive_word(word) || extensions.contains(word)
+}
+
+/// Whether a builtin type has one of the names.
+fn has_builtin(extensions: &Extensions, names: &Items<Node<Text>>) -> bool
+    ensures { result ≡ list_any (is_builtin (extension_words extensions.now)) (words_of names.now) }
+{
+    for name in names.iter() {
+        if is_builtin(extensions, &name.node) {
+            return true;
+        }
+    }
+    false
 }
 
 /// Adds the warning that a builtin type has the name, if one has.
@@ -44,8 +59,7 @@ fn add_builtin(
     ensures { OnOk result (warnings.new.items ≡ warnings.old.items
         ++ builtin_shadowed (extension_words extensions.now) (name.now, loc.now)) }
 {
-    let word = name.as_str();
-    if is_primitive_word(word) || extensions.contains(word) {
+    if is_builtin(extensions, name) {
         let name = name.dup(alloc)?;
         let loc = loc.dup(alloc)?;
         warnings.push(SchemaWarning::ShadowsBuiltin(ShadowsBuiltinWarning { name, loc }))?;
@@ -111,7 +125,9 @@ fn add_entities(
     Ok(())
 }
 
-/// The warnings of a namespace: of its common types and then of its entity types.
+/// The warnings of a namespace: of its common types and then of its entity types. Where there are none, which needs no
+/// order of the names, none is looked for.
+#[tactic(auto, using(crate::proofs::Builtins::unshadowed))]
 fn namespace_warnings(
     alloc: Global,
     decls: &Items<Annotated<Node<Declaration>>>,
@@ -120,8 +136,12 @@ fn namespace_warnings(
     ensures { IfOk result (λ warnings. warnings ≡ namespace_shadows (extension_words extensions.now)
         (map (annotated_tree (node_of decl_tree)) decls.now)) }
 {
-    let entities = places_by_name(alloc, Kind::EntityType, decls)?;
-    let commons = places_by_name(alloc, Kind::CommonType, decls)?;
+    let names = names_in(alloc, Kind::EntityType, decls)?;
+    let commons = places_of(alloc, names_in(alloc, Kind::CommonType, decls)?)?;
+    if commons.is_empty() && !has_builtin(extensions, &names) {
+        return Ok(Items::new(alloc));
+    }
+    let entities = places_of(alloc, names)?;
     let mut warnings = Vec::new(alloc);
     add_commons(alloc, extensions, &entities, &commons, &mut warnings)?;
     add_entities(alloc, extensions, &entities, &mut warnings)?;

@@ -1,7 +1,7 @@
 -- SPDX-License-Identifier: Apache-2.0
 use Rattle.std.proofs.Common.{◌≡◌, ◌++◌, map}
 use Rattle.std.specs.Vec.Iter.{into_iter_items}
-use Rattle.cedar_convert_warnings.proofs.shadowing.places_by_name.Given as goal
+use Rattle.cedar_convert_warnings.proofs.shadowing.places_of.Given as goal
 
 -- the pairs so far, with those of the rest, are all
 abbrev pub invariant-loop-name : goal.invariant-loop-name
