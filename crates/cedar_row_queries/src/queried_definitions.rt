@@ -1,0 +1,215 @@
+// SPDX-License-Identifier: Apache-2.0
+use crate::bracketed::Bracketed;
+use crate::qualified_definitions::add_qualified;
+use cedar_data::{Dup, Failure, Mem, NoMemory, Out};
+use cedar_declared::AllDefs;
+use cedar_definitions::{EntityTypeFragment, ValidatorNamespaceDef, ValidatorSchemaFragment};
+use cedar_fragment::{Fragment, NamespaceDefinition, RawName};
+use cedar_names::{Extensions, InternalName, Name, UnreservedId};
+use cedar_namespace_definitions::FromNamespaceDefinition;
+use cedar_row_schemas::error_told;
+use cedar_row_trees::Lines;
+use cedar_schema::FragmentText;
+use cedar_schema_error::{ActionBehavior, SchemaError};
+use cedar_schema_errors::CedarSchemaError;
+use cedar_written::ConditionalName;
+use std::alloc::Global;
+use std::collections::BTreeMap;
+
+/// The definition of a namespace over names that are not resolved.
+type Definition = ValidatorNamespaceDef<ConditionalName, ConditionalName>;
+
+/// The definitions of a schema over names that are not resolved.
+pub(crate) type Definitions = ValidatorSchemaFragment<ConditionalName, ConditionalName>;
+
+/// What the calls of the definitions tell that the input declares, and what they and the names that they declare say of
+/// each word; and to which entity types the actions apply, where each word is declared as a common type. Or what is said
+/// of why it is refused.
+pub fn definitions(alloc: Global, words: &[&str], input: &str) -> Mem<String> {
+    let made = definitions_of(alloc, input);
+    let told = made_told(alloc, words, &made);
+    drop(made);
+    told
+}
+
+fn made_told(
+    alloc: Global,
+    words: &[&str],
+    made: &Out<Definitions, CedarSchemaError>,
+) -> Mem<String> {
+    match made {
+        Ok(definitions) => definitions_told(alloc, words, definitions),
+        Err(Failure::Refused(error)) => error_told(alloc, error),
+        Err(Failure::NoMemory) => Err(NoMemory),
+    }
+}
+
+/// The definitions that a text declares, namespace by namespace.
+fn definitions_of(alloc: Global, input: &str) -> Out<Definitions, CedarSchemaError> {
+    let extensions = Extensions::all_available(alloc)?;
+    match Fragment::from_cedarschema_str(alloc, input, &extensions) {
+        Ok((fragment, _)) => as_schema_error(all_defined(alloc, &fragment, &extensions)),
+        Err(failure) => Err(failure),
+    }
+}
+
+/// The same, refused with an error of a schema or of its text.
+pub(crate) fn as_schema_error<T>(made: Out<T, SchemaError>) -> Out<T, CedarSchemaError> {
+    match made {
+        Ok(made) => Ok(made),
+        Err(Failure::Refused(error)) => Err(Failure::Refused(CedarSchemaError::Schema(error))),
+        Err(Failure::NoMemory) => Err(Failure::NoMemory),
+    }
+}
+
+fn all_defined(
+    alloc: Global,
+    fragment: &Fragment<RawName>,
+    extensions: &Extensions,
+) -> Out<Definitions, SchemaError> {
+    let mut list = Vec::new(alloc);
+    for (name, declared) in fragment.0.iter() {
+        let definition = defined(alloc, name.as_ref(), declared, extensions)?;
+        list.push(definition)?;
+    }
+    Ok(ValidatorSchemaFragment::from_namespaces(list))
+}
+
+fn defined(
+    alloc: Global,
+    name: Option<&Name>,
+    declared: &NamespaceDefinition<RawName>,
+    extensions: &Extensions,
+) -> Out<Definition, SchemaError> {
+    let namespace = match name {
+        Some(name) => Some(name.as_internal().dup(alloc)?),
+        None => None,
+    };
+    let declared = declared.dup(alloc)?;
+    let behavior = ActionBehavior::ProhibitAttributes;
+    ValidatorNamespaceDef::from_namespace_definition(
+        alloc, namespace, declared, behavior, extensions,
+    )
+}
+
+fn definitions_told(alloc: Global, words: &[&str], definitions: &Definitions) -> Mem<String> {
+    let mut lines = Lines::new(alloc);
+    add_namespaces(&mut lines, definitions)?;
+    for definition in definitions.definitions() {
+        add_definition(&mut lines, definition)?;
+    }
+    let mut names = AllDefs::single_fragment(alloc, definitions)?;
+    for word in words {
+        add_declared(&mut lines, &names, word)?;
+    }
+    mark_all(alloc, &mut names, words)?;
+    add_qualified(&mut lines, definitions, &names)?;
+    Ok(lines.into_text())
+}
+
+/// Marks each word that is a name as a common type.
+fn mark_all(alloc: Global, names: &mut AllDefs, words: &[&str]) -> Mem<()> {
+    for word in words {
+        match InternalName::from_normalized_str(alloc, word) {
+            Ok(name) => names.mark_as_defined_as_common_type(name)?,
+            Err(Failure::Refused(_fault)) => (),
+            Err(Failure::NoMemory) => return Err(NoMemory),
+        }
+    }
+    Ok(())
+}
+
+/// A line of the namespaces.
+fn add_namespaces(lines: &mut Lines, definitions: &Definitions) -> Mem<()> {
+    let mut namespaces = Bracketed::new(lines.alloc);
+    for namespace in definitions.namespaces() {
+        match namespace {
+            Some(name) => namespaces.add_name(name)?,
+            None => namespaces.add("unnamed")?,
+        }
+    }
+    let namespaces = namespaces.told()?;
+    lines.add_line(format!(in lines.alloc; "namespaces {namespaces}")?)
+}
+
+/// The names that a definition declares, the parents of its entity types, and its common types alone.
+fn add_definition(lines: &mut Lines, definition: &Definition) -> Mem<()> {
+    let alloc = lines.alloc;
+    let mut types = Bracketed::new(alloc);
+    for name in definition.all_declared_entity_type_names() {
+        types.add_type(name)?;
+    }
+    let mut actions = Bracketed::new(alloc);
+    for uid in definition.all_declared_action_names() {
+        actions.add_uid(uid)?;
+    }
+    let (types, actions) = (types.told()?, actions.told()?);
+    let common = common_told(alloc, definition)?;
+    lines.add_line(format!(in alloc;
+        "entity types {types}, actions {actions}, common types {common}"
+    )?)?;
+    for (name, ty) in definition.entity_types.defs.iter() {
+        let parents = parents_told(alloc, ty)?;
+        let line = format!(in alloc; "{name} in {parents}")?;
+        lines.add_deep(1, line.as_str())?;
+    }
+    let alone = common_told(alloc, &common_alone(alloc, definition)?)?;
+    let line = format!(in alloc; "common types alone {alone}")?;
+    lines.add_deep(1, line.as_str())
+}
+
+fn common_told(alloc: Global, definition: &Definition) -> Mem<String> {
+    let mut names = Bracketed::new(alloc);
+    for name in definition.all_declared_common_type_names() {
+        names.add_name(name)?;
+    }
+    names.told()
+}
+
+fn parents_told(alloc: Global, ty: &EntityTypeFragment<ConditionalName>) -> Mem<String> {
+    let mut parents = Bracketed::new(alloc);
+    for parent in ty.parents() {
+        let shown = format!(in alloc; "{parent}")?;
+        parents.add(shown.as_str())?;
+    }
+    parents.told()
+}
+
+/// The common types of a definition as a definition of their own.
+fn common_alone(alloc: Global, definition: &Definition) -> Mem<Definition> {
+    let mut types = BTreeMap::new(alloc);
+    for (name, ty) in definition.common_types.defs.iter() {
+        let id = name.basename().dup(alloc)?;
+        match UnreservedId::try_from_id(alloc, id) {
+            Ok(id) => {
+                let ty = ty.dup(alloc)?;
+                types.insert(id, ty)?;
+            }
+            Err(_) => (),
+        }
+    }
+    let namespace = definition.namespace.dup(alloc)?;
+    ValidatorNamespaceDef::from_common_type_defs(alloc, namespace, types)
+}
+
+/// What a name is declared as, and whether it is a common type once it is marked as one.
+fn add_declared(lines: &mut Lines, names: &AllDefs, word: &str) -> Mem<()> {
+    match InternalName::from_normalized_str(lines.alloc, word) {
+        Ok(name) => add_name(lines, names, name),
+        Err(Failure::Refused(_)) => lines.add("no name"),
+        Err(Failure::NoMemory) => Err(NoMemory),
+    }
+}
+
+fn add_name(lines: &mut Lines, names: &AllDefs, name: InternalName) -> Mem<()> {
+    let alloc = lines.alloc;
+    let is_entity = names.is_defined_as_entity(&name);
+    let is_common = names.is_defined_as_common(&name);
+    let mut marked = names.dup(alloc)?;
+    marked.mark_as_defined_as_common_type(name.dup(alloc)?)?;
+    let is_marked = marked.is_defined_as_common(&name);
+    let still = marked.is_defined_as_entity(&name);
+    lines.add_line(format!(in alloc;
+        "{name}: entity {is_entity}, common {is_common}; marked as common: entity {still}, common {is_marked}"
+    )?)
+}
