@@ -27,10 +27,13 @@ pub fn compute_tc<K: TcKey, V: TcNode<K>>(
     nodes: BTreeMap<K, V>,
     enforce_dag: bool,
 ) -> Out<BTreeMap<K, V>, TcError<K>>
-    ensures closed { IfOk result (λ closed. IsClosure K.cmp V.key V.edges V.rest nodes.entries closed.entries) }
-    ensures acyclic { IfOk result (λ _. IsTrue enforce_dag → IsAcyclic K.cmp V.edges nodes.entries) }
+    ensures closed { IfOk result
+        (λ closed. IsClosure K.cmp V.key V.edges V.rest nodes.entries closed.entries) }
+    ensures acyclic { IfOk result (λ _. IsTrue enforce_dag
+        → IsAcyclic K.cmp V.edges nodes.entries) }
     ensures refused { IfRefused result (λ error. IsTrue enforce_dag ×
-        ((vertex : K) × (error ≡ HasCycle vertex) × IsLeastOnCycle K.cmp V.edges nodes.entries vertex)) }
+        ((vertex : K) × (error ≡ HasCycle vertex)
+        × IsLeastOnCycle K.cmp V.edges nodes.entries vertex)) }
 {
     let nodes = Map::from_map(nodes);
     let keys = keys_of_nodes(alloc, &nodes)?;
@@ -118,15 +121,20 @@ fn close_any_edges<K: TcKey, V: TcNode<K>>(
     requires within { LeadWithin rows.now }
     requires one_each { (length rows.now ≡ length keys.now) × (length marks.old ≡ length rows.now) }
     requires ascends { IsStrictlySortedBy K.cmp (V.edges node.old) }
-    requires begun { (V.edges node.old ≡ []) → (to : K) → Chained K.cmp keys.now rows.now key.now to → ⊥ }
-    requires earlier { IsSomeAnd (place K.cmp keys.now key.now) (λ at. All (λ mark. mark ≤ at) marks.old) }
+    requires begun { (V.edges node.old ≡ []) → (to : K) → Chained K.cmp keys.now rows.now key.now to
+        → ⊥ }
+    requires earlier { IsSomeAnd (place K.cmp keys.now key.now)
+        (λ at. All (λ mark. mark ≤ at) marks.old) }
     ensures leads { OnOk result ((to : K) → IsTrue (contains K.cmp (V.edges node.new) to)
-        ↔ (IsTrue (contains K.cmp (V.edges node.old) to) ⊎ Chained K.cmp keys.now rows.now key.now to)) }
+        ↔ (IsTrue (contains K.cmp (V.edges node.old) to)
+        ⊎ Chained K.cmp keys.now rows.now key.now to)) }
     ensures ascends { OnOk result (IsStrictlySortedBy K.cmp (V.edges node.new)) }
     ensures same_key { OnOk result (V.key node.new ≡ V.key node.old) }
     ensures same_rest { OnOk result (V.rest node.new ≡ V.rest node.old) }
-    ensures returns { IfOk result (λ returns. IsTrue returns ↔ Chained K.cmp keys.now rows.now key.now key.now) }
-    ensures latest { OnOk result (IsSomeAnd (place K.cmp keys.now key.now) (λ at. All (λ mark. mark ≤ at + 1) marks.new)) }
+    ensures returns { IfOk result (λ returns. IsTrue returns
+        ↔ Chained K.cmp keys.now rows.now key.now key.now) }
+    ensures latest { OnOk result
+        (IsSomeAnd (place K.cmp keys.now key.now) (λ at. All (λ mark. mark ≤ at + 1) marks.new)) }
 {
     if has_edge(node) {
         return close_node(alloc, keys, rows, marks, key, node);
@@ -147,14 +155,18 @@ fn close_node<K: TcKey, V: TcNode<K>>(
     requires within { LeadWithin rows.now }
     requires one_each { (length rows.now ≡ length keys.now) × (length marks.old ≡ length rows.now) }
     requires ascends { IsStrictlySortedBy K.cmp (V.edges node.old) }
-    requires earlier { IsSomeAnd (place K.cmp keys.now key.now) (λ at. All (λ mark. mark ≤ at) marks.old) }
+    requires earlier { IsSomeAnd (place K.cmp keys.now key.now)
+        (λ at. All (λ mark. mark ≤ at) marks.old) }
     ensures leads { OnOk result ((to : K) → IsTrue (contains K.cmp (V.edges node.new) to)
-        ↔ (IsTrue (contains K.cmp (V.edges node.old) to) ⊎ Chained K.cmp keys.now rows.now key.now to)) }
+        ↔ (IsTrue (contains K.cmp (V.edges node.old) to)
+        ⊎ Chained K.cmp keys.now rows.now key.now to)) }
     ensures ascends { OnOk result (IsStrictlySortedBy K.cmp (V.edges node.new)) }
     ensures same_key { OnOk result (V.key node.new ≡ V.key node.old) }
     ensures same_rest { OnOk result (V.rest node.new ≡ V.rest node.old) }
-    ensures returns { IfOk result (λ returns. IsTrue returns ↔ Chained K.cmp keys.now rows.now key.now key.now) }
-    ensures latest { OnOk result (IsSomeAnd (place K.cmp keys.now key.now) (λ at. All (λ mark. mark ≤ at + 1) marks.new)) }
+    ensures returns { IfOk result (λ returns. IsTrue returns
+        ↔ Chained K.cmp keys.now rows.now key.now key.now) }
+    ensures latest { OnOk result
+        (IsSomeAnd (place K.cmp keys.now key.now) (λ at. All (λ mark. mark ≤ at + 1) marks.new)) }
 {
     let Some(at) = place(keys, key) else {
         unreachable!()
@@ -175,7 +187,8 @@ fn add_edges_to<K: TcKey, V: TcNode<K>>(
     requires within { All (λ at. at < length keys.now) found.now }
     requires ascends { IsStrictlySortedBy K.cmp (V.edges node.old) }
     ensures leads { OnOk result ((to : K) → IsTrue (contains K.cmp (V.edges node.new) to)
-        ↔ (IsTrue (contains K.cmp (V.edges node.old) to) ⊎ IsSomeAnd (place K.cmp keys.now to) (Contains found.now))) }
+        ↔ (IsTrue (contains K.cmp (V.edges node.old) to)
+        ⊎ IsSomeAnd (place K.cmp keys.now to) (Contains found.now))) }
     ensures ascends { OnOk result (IsStrictlySortedBy K.cmp (V.edges node.new)) }
     ensures same_key { OnOk result (V.key node.new ≡ V.key node.old) }
     ensures same_rest { OnOk result (V.rest node.new ≡ V.rest node.old) }

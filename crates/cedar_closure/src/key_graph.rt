@@ -25,7 +25,8 @@ pub(crate) fn keys_of_nodes<K: TcKey, V: TcNode<K>>(alloc: Global, nodes: &Map<K
 /// The keys to which edges lead, and at which no node stands.
 fn other_targets<K: TcKey, V: TcNode<K>>(alloc: Global, nodes: &Map<K, V>) -> Mem<Set<K>>
     ensures beside { IfOk result (λ others. NamesBeside K.cmp V.edges nodes.now others) }
-    ensures edges_ordered { OnOk result (All (λ entry. IsStrictlySortedBy K.cmp (V.edges entry.1)) nodes.now) }
+    ensures edges_ordered { OnOk result
+        (All (λ entry. IsStrictlySortedBy K.cmp (V.edges entry.1)) nodes.now) }
 {
     let mut others = Set::new(alloc);
     for (_, node) in nodes.iter() {
@@ -41,7 +42,8 @@ fn add_other_targets<K: TcKey, V: TcNode<K>>(
     node: &V,
     others: &mut Set<K>,
 ) -> Mem<()>
-    ensures adds { OnOk result (AddsBeside K.cmp (keys_of nodes.now) others.old others.new (V.edges node.now)) }
+    ensures adds { OnOk result
+        (AddsBeside K.cmp (keys_of nodes.now) others.old others.new (V.edges node.now)) }
     ensures ordered { IsStrictlySortedBy K.cmp (V.edges node.now) }
 {
     for key in node.out_edges() {
@@ -58,7 +60,8 @@ fn add_other_target<K: TcKey, V: TcNode<K>>(
     key: &K,
     others: &mut Set<K>,
 ) -> Mem<()>
-    ensures { OnOk result (AddsBeside K.cmp (keys_of nodes.now) others.old others.new (key.now ∷ [])) }
+    ensures { OnOk result (AddsBeside K.cmp (keys_of nodes.now) others.old others.new (key.now
+        ∷ [])) }
 {
     if !nodes.contains_key(key) {
         add_key(alloc, others, key)?;

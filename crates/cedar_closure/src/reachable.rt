@@ -18,7 +18,8 @@ pub(crate) fn reached_from(
     requires start { start < length rows.now }
     requires one_each { length marks.old ≡ length rows.now }
     requires earlier { All (λ mark. mark ≤ start) marks.old }
-    ensures reached { IfOk result (λ found. (j : ℕ) → Contains found.items j ↔ Reaches (Leads rows.now) start j) }
+    ensures reached { IfOk result (λ found. (j : ℕ) → Contains found.items j
+        ↔ Reaches (Leads rows.now) start j) }
     ensures within { IfOk result (λ found. All (λ j. j < length rows.now) found.items) }
     ensures latest { OnOk result (All (λ mark. mark ≤ start + 1) marks.new) }
 {
@@ -40,7 +41,8 @@ pub(crate) fn reached_from(
 fn visit(row: &[usize], stamp: usize, marks: &mut [usize], found: &mut Vec<usize>) -> Mem<()>
     requires within { All (λ j. j < length marks.old) row.now }
     requires told { Told stamp marks.old found.old.items }
-    ensures { OnOk result (Visited stamp row.now marks.old found.old.items marks.new found.new.items) }
+    ensures { OnOk result
+        (Visited stamp row.now marks.old found.old.items marks.new found.new.items) }
 {
     for position in row {
         if marks[*position] != stamp {

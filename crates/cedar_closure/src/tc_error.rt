@@ -45,7 +45,8 @@ impl<K: TcKey> TcError<K> {
 
     /// The place of the kept key, if it has one.
     pub fn spans(&self, alloc: Global) -> Mem<Vec<Span>>
-        ensures { IfOk result (λ spans. spans.items ≡ option_to_list (K.source_range (vertex_of self.now))) }
+        ensures { IfOk result (λ spans. spans.items
+            ≡ option_to_list (K.source_range (vertex_of self.now))) }
     {
         let vertex = match self {
             TcError::HasCycle { vertex } => vertex,

@@ -33,7 +33,8 @@ pub fn asked(alloc: Global, words: &[String]) -> Mem<Option<(Command, Extensions
 
 /// The command that the words begin with, and the words behind it.
 fn command_of(words: &[String]) -> Option<(Command, &[String])>
-    ensures { MatchOption result (BeginWithNone (map string_bytes words.now)) (λ found. Begin (map string_bytes words.now) found.0 (map string_bytes found.1.now)) }
+    ensures { MatchOption result (BeginWithNone (map string_bytes words.now))
+        (λ found. Begin (map string_bytes words.now) found.0 (map string_bytes found.1.now)) }
 {
     let Some((word, others)) = words.split_first() else {
         return None;
@@ -52,7 +53,8 @@ fn command_of(words: &[String]) -> Option<(Command, &[String])>
 
 /// The size that the words begin with, and the words behind it.
 fn size_of(words: &[String]) -> Option<(u32, &[String])>
-    ensures { MatchOption result (NoNumber (map string_bytes words.now)) (λ found. Number (map string_bytes words.now) found.0 (map string_bytes found.1.now)) }
+    ensures { MatchOption result (NoNumber (map string_bytes words.now))
+        (λ found. Number (map string_bytes words.now) found.0 (map string_bytes found.1.now)) }
 {
     let Some((word, options)) = words.split_first() else {
         return None;
@@ -130,7 +132,9 @@ fn named_extensions(alloc: Global, options: &[String]) -> Mem<Option<Extensions>
 
 /// The names, where the words are `--ext` and a name, again and again.
 fn named(alloc: Global, options: &[String]) -> Mem<Option<Vec<Text>>>
-    ensures { IfOk result (λ found. MatchOption found ((names : List (List ℕ)) → map string_bytes options.now ≡ ext_words names → ⊥) (λ names. map string_bytes options.now ≡ ext_words names.items)) }
+    ensures { IfOk result (λ found. MatchOption found ((names : List (List ℕ))
+        → map string_bytes options.now ≡ ext_words names → ⊥) (λ names. map string_bytes options.now
+        ≡ ext_words names.items)) }
 {
     let mut names = Vec::new(alloc);
     let mut index = 0;

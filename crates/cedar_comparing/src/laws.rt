@@ -36,11 +36,13 @@ pub fn structures_leave_places_out<N: RefName + Eq>()
     ensures kind { GoesAlong N.eq ⟦<EntityTypeKind<N> as PartialEq>⟧.eq kind_unplaced }
     ensures entity_type { GoesAlong N.eq ⟦<EntityType<N> as PartialEq>⟧.eq entity_unplaced }
     ensures applies_to { GoesAlong N.eq ⟦<ApplySpec<N> as PartialEq>⟧.eq apply_unplaced }
-    ensures parent { GoesAlong N.eq ⟦<ActionEntityUID<N> as PartialEq>⟧.eq (uid_unplaced N.RefName) }
+    ensures parent { GoesAlong N.eq ⟦<ActionEntityUID<N> as PartialEq>⟧.eq
+        (uid_unplaced N.RefName) }
     ensures action { GoesAlong N.eq ⟦<ActionType<N> as PartialEq>⟧.eq (action_unplaced N.RefName) }
     ensures namespace { GoesAlong N.eq ⟦<NamespaceDefinition<N> as PartialEq>⟧.eq
         (namespace_unplaced N.RefName) }
-    ensures fragment { GoesAlong N.eq ⟦<Fragment<N> as PartialEq>⟧.eq (fragment_unplaced N.RefName) }
+    ensures fragment { GoesAlong N.eq ⟦<Fragment<N> as PartialEq>⟧.eq
+        (fragment_unplaced N.RefName) }
 {}
 
 /// A law with no work to do: the order of values of a type, and its equality, see the same of them. So where one leaves
@@ -55,7 +57,8 @@ pub fn order_agrees_with_equality<T: Ord>()
 /// does.
 pub fn hash_agrees_with_equality<T: Hash>()
     ensures equal { (x y : T) → IsTrue (T.eq x y) → T.hash_input x ≡ T.hash_input y }
-    ensures left { (bare : T → T) → GoesBy T.eq bare → (x : T) → T.hash_input x ≡ T.hash_input (bare x) }
+    ensures left { (bare : T → T) → GoesBy T.eq bare → (x : T) → T.hash_input x
+        ≡ T.hash_input (bare x) }
 {}
 
 /// A law with no work to do: over names whose equality leaves places out, the order of types, of shapes and of parents

@@ -41,7 +41,8 @@ pub trait Completes: Sized {
     /// The same with the full name that each reference means, or the refusal of a reference that
     /// means none.
     fn complete(self, alloc: Global, all_defs: &AllDefs) -> Out<Self::Full, SchemaError>
-        ensures { Answers (result_map_both content (λ e. e) result) (completed (names_of all_defs.now) self) };
+        ensures { Answers (result_map_both content (λ e. e) result)
+            (completed (names_of all_defs.now) self) };
 }
 
 impl<K: Ord + Drop, V: Completes + Drop> Completes for Map<K, V> {
@@ -157,10 +158,15 @@ pub(crate) fn complete_around<
     first: A,
     second: B,
 ) -> Out<(Set<F>, A::Full, B::Full), SchemaError>
-    requires in_order { (a b : F) → F.cmp a b ≡ K.Member.order (K.Member.content a) (K.Member.content b) }
-    ensures { Answers (result_map_both (λ p. (map K.Member.content p.0, A.Completes.content p.1, B.Completes.content p.2)) (λ e. e) result)
+    requires in_order { (a b : F) → F.cmp a b
+        ≡ K.Member.order (K.Member.content a) (K.Member.content b) }
+    ensures { Answers
+        (result_map_both
+        (λ p. (map K.Member.content p.0, A.Completes.content p.1, B.Completes.content p.2))
+        (λ e. e) result)
         (all_three (through_set K.Member.order (K.Member.meant (names_of all_defs.now)) keys)
-        (A.Completes.completed (names_of all_defs.now) first) (B.Completes.completed (names_of all_defs.now) second)) }
+        (A.Completes.completed (names_of all_defs.now) first)
+        (B.Completes.completed (names_of all_defs.now) second)) }
 {
     let targets = target_set(alloc, all_defs, &keys)?;
     let first = first.complete(alloc, all_defs)?;
@@ -176,8 +182,12 @@ pub(crate) fn complete_three<A: Completes + Drop, B: Completes + Drop, C: Comple
     second: B,
     third: C,
 ) -> Out<(A::Full, B::Full, C::Full), SchemaError>
-    ensures { Answers (result_map_both (λ p. (A.Completes.content p.0, B.Completes.content p.1, C.Completes.content p.2)) (λ e. e) result)
-        (all_three (A.Completes.completed (names_of all_defs.now) first) (B.Completes.completed (names_of all_defs.now) second)
+    ensures { Answers
+        (result_map_both
+        (λ p. (A.Completes.content p.0, B.Completes.content p.1, C.Completes.content p.2))
+        (λ e. e) result)
+        (all_three (A.Completes.completed (names_of all_defs.now) first)
+        (B.Completes.completed (names_of all_defs.now) second)
         (C.Completes.completed (names_of all_defs.now) third)) }
 {
     let first = first.complete(alloc, all_defs)?;

@@ -20,17 +20,34 @@ ghost use Rattle.cedar_complete.specs.Completed.{IsMade, completed_action, compl
 /// miss nothing.
 #[tactic(auto, using(crate::proofs::NothingMissed::wholes))]
 pub fn what_misses_nothing_is_made()
-    ensures fragment { (names : Names) (f : ValidatorSchemaFragment ConditionalName ConditionalName over_conditional) → refusal_of (missing_in_each (missing_in_definition names) (definitions_of f)) ≡ None → IsMade (completed_fragment names f) }
-    ensures definition { (names : Names) (d : ValidatorNamespaceDef ConditionalName ConditionalName over_conditional) → refusal_of (missing_in_definition names d) ≡ None → IsMade (completed_definition names d) }
+    ensures fragment { (names : Names)
+        (f : ValidatorSchemaFragment ConditionalName ConditionalName over_conditional)
+        → refusal_of (missing_in_each (missing_in_definition names) (definitions_of f)) ≡ None
+        → IsMade (completed_fragment names f) }
+    ensures definition { (names : Names)
+        (d : ValidatorNamespaceDef ConditionalName ConditionalName over_conditional)
+        → refusal_of (missing_in_definition names d) ≡ None
+        → IsMade (completed_definition names d) }
 {}
 
 /// So are common types, entity types and actions, and what an action applies to.
 #[tactic(auto, using(crate::proofs::NothingMissed::parts))]
 pub fn parts_that_miss_nothing_are_made()
-    ensures common_types { (names : Names) (d : CommonTypeDefs ConditionalName) → refusal_of (missing_in_values (missing_in_common names) d.defs) ≡ None → IsMade (completed_commons names d) }
-    ensures entity_types { (names : Names) (d : EntityTypesDef ConditionalName) → refusal_of (missing_in_values (missing_in_entity names) d.defs) ≡ None → IsMade (completed_entities names d) }
-    ensures entity_type { (names : Names) (e : EntityTypeFragment ConditionalName) → refusal_of (missing_in_entity names e) ≡ None → IsMade (completed_entity names e) }
-    ensures actions { (names : Names) (d : ActionsDef ConditionalName ConditionalName over_conditional) → refusal_of (missing_in_values (missing_in_action names) d.actions) ≡ None → IsMade (completed_actions names d) }
-    ensures action { (names : Names) (a : ActionFragment ConditionalName ConditionalName over_conditional) → refusal_of (missing_in_action names a) ≡ None → IsMade (completed_action names a) }
-    ensures applies_to { (names : Names) (a : ValidatorApplySpec ConditionalName) → refusal_of (missing_in_apply names a) ≡ None → IsMade (completed_apply names a) }
+    ensures common_types { (names : Names) (d : CommonTypeDefs ConditionalName)
+        → refusal_of (missing_in_values (missing_in_common names) d.defs) ≡ None
+        → IsMade (completed_commons names d) }
+    ensures entity_types { (names : Names) (d : EntityTypesDef ConditionalName)
+        → refusal_of (missing_in_values (missing_in_entity names) d.defs) ≡ None
+        → IsMade (completed_entities names d) }
+    ensures entity_type { (names : Names) (e : EntityTypeFragment ConditionalName)
+        → refusal_of (missing_in_entity names e) ≡ None → IsMade (completed_entity names e) }
+    ensures actions { (names : Names)
+        (d : ActionsDef ConditionalName ConditionalName over_conditional)
+        → refusal_of (missing_in_values (missing_in_action names) d.actions) ≡ None
+        → IsMade (completed_actions names d) }
+    ensures action { (names : Names)
+        (a : ActionFragment ConditionalName ConditionalName over_conditional)
+        → refusal_of (missing_in_action names a) ≡ None → IsMade (completed_action names a) }
+    ensures applies_to { (names : Names) (a : ValidatorApplySpec ConditionalName)
+        → refusal_of (missing_in_apply names a) ≡ None → IsMade (completed_apply names a) }
 {}

@@ -31,8 +31,10 @@ pub trait FullyQualifyDefinitions: Completes + HasReferences {
         all_defs: &AllDefs,
     ) -> Out<Self::Full, SchemaError>
         ensures answer { Answers (result_map_both Self.Completes.content (λ e. e) result)
-            (answer_of (Self.HasReferences.missing (names_of all_defs.now) self) (Self.Completes.completed (names_of all_defs.now) self)) }
-        ensures refused { IfRefused result (λ e. refusal_of (Self.HasReferences.missing (names_of all_defs.now) self) ≡ Some e) };
+            (answer_of (Self.HasReferences.missing (names_of all_defs.now) self)
+            (Self.Completes.completed (names_of all_defs.now) self)) }
+        ensures refused { IfRefused result
+            (λ e. refusal_of (Self.HasReferences.missing (names_of all_defs.now) self) ≡ Some e) };
 }
 
 /// The refusal of what is missed, or else the same over full names.
@@ -42,7 +44,8 @@ fn complete_or_refuse<T: Completes + HasReferences + Drop>(
     whole: T,
 ) -> Out<T::Full, SchemaError>
     ensures { Answers (result_map_both T.Completes.content (λ e. e) result)
-        (answer_of (T.HasReferences.missing (names_of all_defs.now) whole) (T.Completes.completed (names_of all_defs.now) whole)) }
+        (answer_of (T.HasReferences.missing (names_of all_defs.now) whole)
+        (T.Completes.completed (names_of all_defs.now) whole)) }
 {
     let missing = whole.missing(alloc, all_defs)?;
     match missing.into_refusal() {

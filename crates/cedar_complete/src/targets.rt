@@ -37,7 +37,8 @@ pub(crate) trait Member<F> {
 
     /// What is meant.
     fn target(&self, alloc: Global, all_defs: &AllDefs) -> Out<F, SchemaError>
-        ensures { Answers (result_map_both content (λ e. e) result) (meant (names_of all_defs.now) self.now) };
+        ensures { Answers (result_map_both content (λ e. e) result)
+            (meant (names_of all_defs.now) self.now) };
 }
 
 /// The full name that a reference to an entity type means.
@@ -128,7 +129,8 @@ pub(crate) fn target_set<K: Ord + Member<F>, F: Ord + Drop>(
     all_defs: &AllDefs,
     keys: &Set<K>,
 ) -> Out<Set<F>, SchemaError>
-    requires in_order { (a b : F) → F.cmp a b ≡ K.Member.order (K.Member.content a) (K.Member.content b) }
+    requires in_order { (a b : F) → F.cmp a b
+        ≡ K.Member.order (K.Member.content a) (K.Member.content b) }
     ensures { Answers (result_map_both (map K.Member.content) (λ e. e) result)
         (through_set K.Member.order (K.Member.meant (names_of all_defs.now)) keys.now) }
 {

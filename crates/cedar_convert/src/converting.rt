@@ -28,7 +28,8 @@ fn fragment_and_warnings(
     all: Items<Gathered>,
     extensions: &Extensions,
 ) -> Mem<(Fragment<RawName>, Vec<SchemaWarning>)>
-    ensures fragment { IfOk result (λ made. fragment_seen made.0 ≡ fragment_of (map gathered_tree all)) }
+    ensures fragment { IfOk result (λ made. fragment_seen made.0
+        ≡ fragment_of (map gathered_tree all)) }
     ensures warnings { IfOk result (λ made. made.1.items
         ≡ shadows (extension_words extensions.now) (map gathered_tree all)) }
 {
@@ -43,7 +44,8 @@ fn convert_gathered(
     all: Items<Gathered>,
     extensions: &Extensions,
 ) -> Out<(Fragment<RawName>, Vec<SchemaWarning>), ToJsonSchemaErrors>
-    ensures fragment { IfOk result (λ made. fragment_seen made.0 ≡ fragment_of (map gathered_tree all)) }
+    ensures fragment { IfOk result (λ made. fragment_seen made.0
+        ≡ fragment_of (map gathered_tree all)) }
     ensures declared { IfOk result (λ _. AreDeclared (map gathered_tree all)) }
     ensures warnings { IfOk result (λ made. made.1.items
         ≡ shadows (extension_words extensions.now) (map gathered_tree all)) }

@@ -29,9 +29,11 @@ impl Applied {
     #[tactic(auto, using(crate::proofs::ApplyViews::kept))]
     fn add(&mut self, alloc: Global, clause: AppDecl) -> Mem<()>
         ensures principals { OnOk result (map name_at self.new.principals
-            ≡ map name_at self.old.principals ++ map name_of (listed_in Principal (app_tree clause))) }
+            ≡ map name_at self.old.principals
+            ++ map name_of (listed_in Principal (app_tree clause))) }
         ensures resources { OnOk result (map name_at self.new.resources
-            ≡ map name_at self.old.resources ++ map name_of (listed_in Resource (app_tree clause))) }
+            ≡ map name_at self.old.resources
+            ++ map name_of (listed_in Resource (app_tree clause))) }
         ensures context { OnOk result (context_seen self.new.context
             ≡ option_or (context_seen self.old.context) (context_in (app_tree clause))) }
     {
@@ -52,11 +54,14 @@ impl Applied {
     #[tactic(auto, using(crate::proofs::ApplyViews::clauses))]
     fn add_all(&mut self, alloc: Global, clauses: Vec<Node<AppDecl>>) -> Mem<()>
         ensures principals { OnOk result (map name_at self.new.principals
-            ≡ map name_at self.old.principals ++ listed_of Principal (map (node_of app_tree) clauses.items)) }
+            ≡ map name_at self.old.principals
+            ++ listed_of Principal (map (node_of app_tree) clauses.items)) }
         ensures resources { OnOk result (map name_at self.new.resources
-            ≡ map name_at self.old.resources ++ listed_of Resource (map (node_of app_tree) clauses.items)) }
+            ≡ map name_at self.old.resources
+            ++ listed_of Resource (map (node_of app_tree) clauses.items)) }
         ensures context { OnOk result (context_seen self.new.context
-            ≡ option_or (context_seen self.old.context) (first_context (map (node_of app_tree) clauses.items))) }
+            ≡ option_or (context_seen self.old.context)
+            (first_context (map (node_of app_tree) clauses.items))) }
     {
         for clause in clauses {
             self.add(alloc, clause.node)?;

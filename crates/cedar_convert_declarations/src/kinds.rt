@@ -49,7 +49,8 @@ fn standard_declared(
     tags: Option<Node<Type>>,
 ) -> Mem<EntityTypeKind<RawName>>
     ensures { IfOk result (λ made. kind_seen made ≡ Shaped (map name_of (map path_tree parents))
-        (shape_type (context_tree shape)) (option_map type_at (option_map (node_of type_tree) tags))) }
+        (shape_type (context_tree shape))
+        (option_map type_at (option_map (node_of type_tree) tags))) }
 {
     let names = raw_names(alloc, parents);
     let shape = shape_declared(alloc, shape);
@@ -161,7 +162,12 @@ fn action_declared(
 ) -> Mem<(Vec<Text>, ActionType<RawName>)>
     ensures names { IfOk result (λ made. made.0.items ≡ words_of (action_tree action).names) }
     ensures action { IfOk result (λ made. action_seen made.1
-        ≡ record { content = action_content (action_tree action); annotations = annotations_tree annotations; loc = Some loc }) }
+        ≡ record {
+          content = action_content
+              (action_tree action);
+          annotations = annotations_tree annotations;
+          loc = Some loc;
+        }) }
 {
     let ActionDecl {
         names,

@@ -49,7 +49,8 @@ pub(crate) fn put_each<K: Drop, V: Dup + Drop>(
     value: V,
     made: &mut Vec<(K, V)>,
 ) -> Mem<()>
-    ensures { OnOk result (made.new.items ≡ made.old.items ++ map (λ key. (key, value)) keys.items) }
+    ensures { OnOk result (made.new.items ≡ made.old.items
+        ++ map (λ key. (key, value)) keys.items) }
 {
     let Some(last) = keys.pop() else {
         return Ok(());

@@ -82,7 +82,8 @@ fn repeated_name(
     decls: &Items<Annotated<Node<Declaration>>>,
 ) -> Mem<Option<ToJsonSchemaError>>
     ensures { IfOk result (λ fault. option_to_list fault
-        ≡ repeated_name (names_in (names_of kind) (map (annotated_tree (node_of decl_tree)) decls.now))) }
+        ≡ repeated_name
+        (names_in (names_of kind) (map (annotated_tree (node_of decl_tree)) decls.now))) }
 {
     let names = names_in(alloc, kind, decls)?;
     match first_repeat(alloc, &names)? {
@@ -104,7 +105,8 @@ fn repeated_name(
 
 /// The full name of a namespace, where one of its components is `__cedar`.
 fn reserved_namespace(alloc: Global, name: &Option<Path>) -> Mem<Option<ToJsonSchemaError>>
-    ensures { IfOk result (λ fault. option_to_list fault ≡ reserved_namespace (option_map path_tree name.now)) }
+    ensures { IfOk result (λ fault. option_to_list fault
+        ≡ reserved_namespace (option_map path_tree name.now)) }
 {
     let Some(path) = name else {
         return Ok(None);
@@ -122,7 +124,8 @@ fn reserved_namespace(alloc: Global, name: &Option<Path>) -> Mem<Option<ToJsonSc
 
 /// What is wrong with the names of a namespace, if anything is.
 fn binding_of(alloc: Global, gathered: &Gathered) -> Mem<Option<ToJsonSchemaError>>
-    ensures { IfOk result (λ fault. option_to_list fault ≡ binding_of (gathered_tree gathered.now)) }
+    ensures { IfOk result (λ fault. option_to_list fault
+        ≡ binding_of (gathered_tree gathered.now)) }
 {
     if let Some(fault) = reserved_namespace(alloc, &gathered.name)? {
         return Ok(Some(fault));
@@ -138,7 +141,8 @@ fn binding_of(alloc: Global, gathered: &Gathered) -> Mem<Option<ToJsonSchemaErro
 
 /// The first named namespace that stands again, if one does.
 fn repeated_namespace(alloc: Global, all: &Items<Gathered>) -> Mem<Option<ToJsonSchemaError>>
-    ensures { IfOk result (λ fault. option_to_list fault ≡ repeated_namespace (map gathered_tree all.now)) }
+    ensures { IfOk result (λ fault. option_to_list fault
+        ≡ repeated_namespace (map gathered_tree all.now)) }
 {
     let mut names = Items::new(alloc);
     for gathered in all.iter() {

@@ -101,7 +101,8 @@ fn commons_fault(
     alloc: Global,
     decls: &Items<Annotated<Node<Declaration>>>,
 ) -> Mem<Option<ToJsonSchemaError>>
-    ensures { IfOk result (λ fault. option_to_list fault ≡ first_found (map (λ d. common_faults d.item.node)
+    ensures { IfOk result (λ fault. option_to_list fault
+        ≡ first_found (map (λ d. common_faults d.item.node)
         (map (annotated_tree (node_of decl_tree)) decls.now))) }
 {
     for decl in decls.iter() {

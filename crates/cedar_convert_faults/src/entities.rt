@@ -74,7 +74,8 @@ pub(crate) fn shape_fault(alloc: Global, shape: &ContextDecl) -> Mem<Option<ToJs
 /// The leftmost repeat of the type of tags, if there is one.
 fn tags_fault(alloc: Global, tags: &Option<Node<Type>>) -> Mem<Option<ToJsonSchemaError>>
     ensures { IfOk result (λ fault. option_to_list fault
-        ≡ flat_map (λ t. repeat_fault (leftmost_repeat t.node)) (option_to_list (option_map (node_of type_tree) tags.now))) }
+        ≡ flat_map (λ t. repeat_fault (leftmost_repeat t.node))
+        (option_to_list (option_map (node_of type_tree) tags.now))) }
 {
     match tags {
         None => Ok(None),

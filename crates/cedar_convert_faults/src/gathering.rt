@@ -38,7 +38,8 @@ fn gather_one(
     ensures named { IfOk result (λ _. map gathered_tree all.new
         ≡ map gathered_tree all.old ++ named_namespaces (schema_tree (namespace ∷ []))) }
     ensures loose { IfOk result (λ _. map (annotated_tree (node_of decl_tree)) loose.new
-        ≡ map (annotated_tree (node_of decl_tree)) loose.old ++ loose_declarations (schema_tree (namespace ∷ []))) }
+        ≡ map (annotated_tree (node_of decl_tree)) loose.old
+        ++ loose_declarations (schema_tree (namespace ∷ []))) }
 {
     let Annotated { item, annotations } = namespace;
     let Namespace {
@@ -71,7 +72,8 @@ fn with_unnamed(
     mut all: Items<Gathered>,
     loose: Items<Annotated<Node<Declaration>>>,
 ) -> Mem<Items<Gathered>>
-    ensures { IfOk result (λ more. map gathered_tree more ≡ map gathered_tree all ++ unnamed (map (annotated_tree (node_of decl_tree)) loose)) }
+    ensures { IfOk result (λ more. map gathered_tree more ≡ map gathered_tree all
+        ++ unnamed (map (annotated_tree (node_of decl_tree)) loose)) }
 {
     if loose.is_empty() {
         return Ok(all);

@@ -94,7 +94,8 @@ fn record_declared(
 /// The type that a context or a shape declares. It fails only for want of memory.
 #[tactic(auto, using(crate::proofs::TypeViews::declaring))]
 pub fn shape_declared(alloc: Global, shape: ContextDecl) -> Mem<AttributesOrContext<RawName>>
-    ensures { IfOk result (λ made. type_seen (type_of_shape made) ≡ shape_type (context_tree shape)) }
+    ensures { IfOk result (λ made. type_seen (type_of_shape made)
+        ≡ shape_type (context_tree shape)) }
 {
     match shape {
         ContextDecl::Path(path) => {

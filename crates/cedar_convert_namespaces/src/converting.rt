@@ -37,7 +37,8 @@ pub fn from_annotated_namespace(
 ) -> Out<NamespaceDefinition<RawName>, ToJsonSchemaErrors>
     ensures declared { IfOk result (λ made. definition_seen made ≡ definition_of
         (annotations_tree n.annotations) (map (annotated_tree (node_of decl_tree)) n.item.decls)) }
-    ensures sound { IfOk result (λ _. AreSound (map (annotated_tree (node_of decl_tree)) n.item.decls)) }
+    ensures sound { IfOk result
+        (λ _. AreSound (map (annotated_tree (node_of decl_tree)) n.item.decls)) }
     ensures refused { IfRefused result (λ errors. fault_list errors
         ≡ faults_among (map (annotated_tree (node_of decl_tree)) n.item.decls)) }
     ensures accepts { AreSound (map (annotated_tree (node_of decl_tree)) n.item.decls)

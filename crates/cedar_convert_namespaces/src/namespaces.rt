@@ -54,7 +54,8 @@ pub(crate) fn definition_declared(
     decls: Items<Annotated<Node<Declaration>>>,
 ) -> Mem<NamespaceDefinition<RawName>>
     ensures { IfOk result (λ made. definition_seen made
-        ≡ definition_of (annotations_tree annotations) (map (annotated_tree (node_of decl_tree)) decls)) }
+        ≡ definition_of (annotations_tree annotations)
+        (map (annotated_tree (node_of decl_tree)) decls)) }
 {
     let mut common_types = Vec::new(alloc);
     let mut entity_types = Vec::new(alloc);
@@ -80,11 +81,14 @@ fn declare_one(
     actions: &mut Vec<(Text, ActionType<RawName>)>,
 ) -> Mem<()>
     ensures common_types { OnOk result (commons_seen common_types.new.items
-        ≡ commons_seen common_types.old.items ++ given declares.commons (annotated_tree (node_of decl_tree) decl ∷ [])) }
+        ≡ commons_seen common_types.old.items
+        ++ given declares.commons (annotated_tree (node_of decl_tree) decl ∷ [])) }
     ensures entity_types { OnOk result (entities_seen entity_types.new.items
-        ≡ entities_seen entity_types.old.items ++ given declares.entities (annotated_tree (node_of decl_tree) decl ∷ [])) }
+        ≡ entities_seen entity_types.old.items
+        ++ given declares.entities (annotated_tree (node_of decl_tree) decl ∷ [])) }
     ensures actions { OnOk result (actions_seen actions.new.items
-        ≡ actions_seen actions.old.items ++ given declares.actions (annotated_tree (node_of decl_tree) decl ∷ [])) }
+        ≡ actions_seen actions.old.items
+        ++ given declares.actions (annotated_tree (node_of decl_tree) decl ∷ [])) }
 {
     let Annotated { item, annotations } = decl;
     let Node { node, loc } = item;
@@ -139,7 +143,8 @@ fn namespaces_declared(
     alloc: Global,
     all: Items<Gathered>,
 ) -> Mem<Vec<(Option<Name>, NamespaceDefinition<RawName>)>>
-    ensures { IfOk result (λ made. namespaces_seen made.items ≡ declared_by (map gathered_tree all)) }
+    ensures { IfOk result (λ made. namespaces_seen made.items
+        ≡ declared_by (map gathered_tree all)) }
 {
     let mut made = Vec::new(alloc);
     for gathered in all.into_vec() {

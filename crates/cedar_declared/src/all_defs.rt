@@ -49,8 +49,10 @@ impl AllDefs {
 
     /// Puts the name to the declared common types. It fails only for want of memory, and then changes nothing.
     pub fn mark_as_defined_as_common_type(&mut self, name: InternalName) -> Mem<()>
-        ensures adds { OnOk result (AddsName (names_of self.old).common_types (names_of self.new).common_types name) }
-        ensures entity_types { OnOk result ((names_of self.new).entity_types ≡ (names_of self.old).entity_types) }
+        ensures adds { OnOk result
+            (AddsName (names_of self.old).common_types (names_of self.new).common_types name) }
+        ensures entity_types { OnOk result ((names_of self.new).entity_types
+            ≡ (names_of self.old).entity_types) }
         ensures actions { OnOk result ((names_of self.new).actions ≡ (names_of self.old).actions) }
         ensures err { OnErr result (self.new ≡ self.old) }
     {

@@ -33,7 +33,8 @@ impl TypeNames {
     /// Those that have a namespace, in order.
     #[tactic(auto, using(crate::proofs::QualifiedNames::listed))]
     fn qualified_names(&self) -> SetIter<'_, InternalName>
-        ensures { filter is_qualified (map components result) ≡ filter is_qualified (type_names self.now) }
+        ensures { filter is_qualified (map components result)
+            ≡ filter is_qualified (type_names self.now) }
     {
         self.qualified.iter()
     }
@@ -76,14 +77,16 @@ impl AllDefs {
 
     /// The names of declared entity types; those that have a namespace are all there, in order.
     pub fn qualified_entity_types(&self) -> SetIter<'_, InternalName>
-        ensures { filter is_qualified (map components result) ≡ filter is_qualified (names_of self.now).entity_types }
+        ensures { filter is_qualified (map components result)
+            ≡ filter is_qualified (names_of self.now).entity_types }
     {
         self.entity_types.qualified_names()
     }
 
     /// The names of declared common types; those that have a namespace are all there, in order.
     pub fn qualified_common_types(&self) -> SetIter<'_, InternalName>
-        ensures { filter is_qualified (map components result) ≡ filter is_qualified (names_of self.now).common_types }
+        ensures { filter is_qualified (map components result)
+            ≡ filter is_qualified (names_of self.now).common_types }
     {
         self.common_types.qualified_names()
     }

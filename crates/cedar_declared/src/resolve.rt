@@ -50,8 +50,11 @@ fn first_declared(
     kind: ReferenceType,
     names: NonEmpty<InternalName>,
 ) -> InternalName
-    requires { is_some (find (λ p. is_declared (names_of all_defs.now) kind (components p)) (elements names)) ≡ true }
-    ensures { find (λ p. is_declared (names_of all_defs.now) kind (components p)) (elements names) ≡ Some result }
+    requires { is_some
+        (find (λ p. is_declared (names_of all_defs.now) kind (components p)) (elements names))
+        ≡ true }
+    ensures { find (λ p. is_declared (names_of all_defs.now) kind (components p)) (elements names)
+        ≡ Some result }
 {
     let NonEmpty { head, tail } = names;
     if all_defs.is_declared(kind, &head) {

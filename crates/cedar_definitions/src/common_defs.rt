@@ -76,7 +76,8 @@ fn named_alone<T: Drop>(
     id: UnreservedId,
     value: T,
 ) -> Mem<Map<InternalName, T>>
-    ensures { IfOk result (λ m. m ≡ map_of internal_cmp (named_types (option_copied namespace.entry) ((id, value) ∷ []))) }
+    ensures { IfOk result (λ m. m
+        ≡ map_of internal_cmp (named_types (option_copied namespace.entry) ((id, value) ∷ []))) }
 {
     let mut named = Map::new(alloc);
     let name = name_in(alloc, namespace, id)?;
@@ -90,7 +91,8 @@ fn named_in<T: Drop>(
     namespace: Option<&InternalName>,
     defs: Map<UnreservedId, T>,
 ) -> Mem<Map<InternalName, T>>
-    ensures { IfOk result (λ m. m ≡ map_of internal_cmp (named_types (option_copied namespace.entry) defs)) }
+    ensures { IfOk result (λ m. m
+        ≡ map_of internal_cmp (named_types (option_copied namespace.entry) defs)) }
 {
     let mut named = Map::new(alloc);
     for (id, value) in defs.into_entries() {

@@ -75,7 +75,9 @@ fn push_names<K: Ord + Declares, V>(
 /// The first item that is equal to one before it.
 #[tactic(auto, using(crate::proofs::Seen::seen))]
 fn first_again<K: Ord + Dup + Drop>(alloc: Global, items: Items<K>) -> Mem<Option<K>>
-    ensures { IfOk result (λ o. MatchOption o (NoneAgain (same_by K.cmp) [] items) (λ k. FirstAgain (same_by K.cmp) [] items k)) }
+    ensures { IfOk result
+        (λ o. MatchOption o (NoneAgain (same_by K.cmp) [] items)
+        (λ k. FirstAgain (same_by K.cmp) [] items k)) }
 {
     let mut seen = Set::new(alloc);
     for item in items.into_vec() {

@@ -54,7 +54,8 @@ impl fmt::Display for NameCollisionsError {
 
 /// Writes each name behind `, `.
 fn write_others<W: fmt::Write>(others: &[InternalName], f: &mut fmt::Formatter<W>) -> fmt::Result
-    ensures { WritesOnOk W.write_str_gives f.old result (flat_map (λ n. codes ", " ++ name_text n) others.now) f.new }
+    ensures { WritesOnOk W.write_str_gives f.old result
+        (flat_map (λ n. codes ", " ++ name_text n) others.now) f.new }
 {
     for other in others {
         write!(f, ", {other}")?;

@@ -23,7 +23,8 @@ pub fn json_schema_to_cedar_schema_str<N: RefName + Display>(
     json_schema: &Fragment<N>,
 ) -> Out<String, ToCedarSchemaSyntaxError>
     ensures none { IfOk result (λ text. collisions json_schema.now ≡ []) }
-    ensures text { IfOk result (λ text. IfSome (text_of N.output (print json_schema.now)) (λ bs. string_bytes text ≡ bs)) }
+    ensures text { IfOk result
+        (λ text. IfSome (text_of N.output (print json_schema.now)) (λ bs. string_bytes text ≡ bs)) }
     ensures refused { IfRefused result (λ error. kept_names error ≡ collisions json_schema.now) }
 {
     let names = collisions(alloc, json_schema)?;
@@ -37,7 +38,8 @@ pub fn json_schema_to_cedar_schema_str<N: RefName + Display>(
 
 /// The text of the schema.
 fn written<N: RefName + Display>(alloc: Global, fragment: &Fragment<N>) -> Mem<String>
-    ensures { IfOk result (λ text. IfSome (text_of N.output (print fragment.now)) (λ bs. string_bytes text ≡ bs)) }
+    ensures { IfOk result
+        (λ text. IfSome (text_of N.output (print fragment.now)) (λ bs. string_bytes text ≡ bs)) }
 {
     let text = fragment.to_string(alloc)?;
     Ok(text)
@@ -53,7 +55,8 @@ pub trait ToCedarSchema {
     /// The text; refused with the names that are both, if there are any.
     fn to_cedarschema(&self, alloc: Global) -> Out<String, ToCedarSchemaSyntaxError>
         ensures none { IfOk result (λ text. shared self.now ≡ []) }
-        ensures text { IfOk result (λ text. IfSome (printed self.now) (λ bs. string_bytes text ≡ bs)) }
+        ensures text { IfOk result (λ text. IfSome (printed self.now) (λ bs. string_bytes text
+            ≡ bs)) }
         ensures refused { IfRefused result (λ error. kept_names error ≡ shared self.now) };
 }
 

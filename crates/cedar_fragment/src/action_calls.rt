@@ -50,7 +50,8 @@ impl ActionEntityUID<RawName> {
         ns: Option<&InternalName>,
     ) -> Mem<ActionEntityUID<InternalName>>
         ensures { IfOk result (λ uid. uid
-            ≡ uid_of over_internal self.id (qualified (written (unwrap_or (type_in self) action_name)) (option_copied ns.entry))) }
+            ≡ uid_of over_internal self.id
+            (qualified (written (unwrap_or (type_in self) action_name)) (option_copied ns.entry))) }
     {
         let ActionEntityUID { ty, id } = self;
         let name = type_or_action(alloc, ty)?;

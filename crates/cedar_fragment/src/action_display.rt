@@ -28,7 +28,8 @@ fn write_uid_type<N: fmt::Display, W: fmt::Write>(
     ty: &Option<N>,
     f: &mut fmt::Formatter<W>,
 ) -> fmt::Result
-    ensures { DisplaysOnOk W.write_str_gives f.old result (text_of N.output (print_uid_type ty.now)) f.new }
+    ensures { DisplaysOnOk W.write_str_gives f.old result
+        (text_of N.output (print_uid_type ty.now)) f.new }
 {
     match ty {
         None => write!(f, "Action"),
@@ -38,7 +39,8 @@ fn write_uid_type<N: fmt::Display, W: fmt::Write>(
 
 /// Writes the id of an action behind its type.
 fn write_uid_id<W: fmt::Write>(id: &Text, f: &mut fmt::Formatter<W>) -> fmt::Result
-    ensures { DisplaysOnOk W.write_str_gives f.old result (text_of nameless (mark (codes "::") ∷ quoted id.now ∷ [])) f.new }
+    ensures { DisplaysOnOk W.write_str_gives f.old result
+        (text_of nameless (mark (codes "::") ∷ quoted id.now ∷ [])) f.new }
 {
     let id = Quoted(id);
     write!(f, "::{id}")
@@ -59,7 +61,8 @@ fn write_action_parents<N: RefName + fmt::Display, W: fmt::Write>(
     member_of: &Option<Items<ActionEntityUID<N>>>,
     f: &mut fmt::Formatter<W>,
 ) -> fmt::Result
-    ensures { DisplaysOnOk W.write_str_gives f.old result (text_of N.output (print_action_parents member_of.now)) f.new }
+    ensures { DisplaysOnOk W.write_str_gives f.old result
+        (text_of N.output (print_action_parents member_of.now)) f.new }
 {
     match member_of {
         None => Ok(()),

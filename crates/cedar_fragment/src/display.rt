@@ -53,7 +53,8 @@ impl<N: fmt::Display> fmt::Display for StandardEntityType<N> {
 
 /// Writes the ids of the entities of an enumerated type.
 fn write_choices<W: fmt::Write>(choices: &NonEmpty<Text>, f: &mut fmt::Formatter<W>) -> fmt::Result
-    ensures { DisplaysOnOk W.write_str_gives f.old result (text_of nameless (print_choices choices.now)) f.new }
+    ensures { DisplaysOnOk W.write_str_gives f.old result
+        (text_of nameless (print_choices choices.now)) f.new }
 {
     write!(f, " enum ")?;
     write_quoted_list(choices, f)
@@ -64,7 +65,8 @@ pub(crate) fn write_parents<T: fmt::Display, W: fmt::Write>(
     parents: &Items<T>,
     f: &mut fmt::Formatter<W>,
 ) -> fmt::Result
-    ensures { DisplaysOnOk W.write_str_gives f.old result (text_of T.output (print_parents named parents.now)) f.new }
+    ensures { DisplaysOnOk W.write_str_gives f.old result
+        (text_of T.output (print_parents named parents.now)) f.new }
 {
     if parents.is_empty() {
         return Ok(());
@@ -77,7 +79,8 @@ fn write_given_parents<T: fmt::Display, W: fmt::Write>(
     parents: &Items<T>,
     f: &mut fmt::Formatter<W>,
 ) -> fmt::Result
-    ensures { DisplaysOnOk W.write_str_gives f.old result (text_of T.output (parents_printed named parents.now)) f.new }
+    ensures { DisplaysOnOk W.write_str_gives f.old result
+        (text_of T.output (parents_printed named parents.now)) f.new }
 {
     write!(f, " in ")?;
     write_list(parents, f)
@@ -88,7 +91,8 @@ fn write_shape_clause<N: fmt::Display, W: fmt::Write>(
     shape: &AttributesOrContext<N>,
     f: &mut fmt::Formatter<W>,
 ) -> fmt::Result
-    ensures { DisplaysOnOk W.write_str_gives f.old result (text_of N.output (print_shape_clause shape.now)) f.new }
+    ensures { DisplaysOnOk W.write_str_gives f.old result
+        (text_of N.output (print_shape_clause shape.now)) f.new }
 {
     if shape.is_empty_record() {
         return Ok(());
@@ -101,7 +105,8 @@ fn write_shape<N: fmt::Display, W: fmt::Write>(
     shape: &AttributesOrContext<N>,
     f: &mut fmt::Formatter<W>,
 ) -> fmt::Result
-    ensures { DisplaysOnOk W.write_str_gives f.old result (text_of N.output (shape_printed shape.now)) f.new }
+    ensures { DisplaysOnOk W.write_str_gives f.old result
+        (text_of N.output (shape_printed shape.now)) f.new }
 {
     write!(f, " = ")?;
     shape.fmt(f)
@@ -112,7 +117,8 @@ fn write_tags<N: fmt::Display, W: fmt::Write>(
     tags: &Option<SchemaType<N>>,
     f: &mut fmt::Formatter<W>,
 ) -> fmt::Result
-    ensures { DisplaysOnOk W.write_str_gives f.old result (text_of N.output (print_tags tags.now)) f.new }
+    ensures { DisplaysOnOk W.write_str_gives f.old result
+        (text_of N.output (print_tags tags.now)) f.new }
 {
     match tags {
         None => Ok(()),
@@ -125,7 +131,8 @@ fn write_tag_type<N: fmt::Display, W: fmt::Write>(
     ty: &SchemaType<N>,
     f: &mut fmt::Formatter<W>,
 ) -> fmt::Result
-    ensures { DisplaysOnOk W.write_str_gives f.old result (text_of N.output (tags_printed ty.now)) f.new }
+    ensures { DisplaysOnOk W.write_str_gives f.old result
+        (text_of N.output (tags_printed ty.now)) f.new }
 {
     write!(f, " tags ")?;
     ty.fmt(f)
@@ -136,7 +143,8 @@ pub(crate) fn write_apply_clause<N: fmt::Display, W: fmt::Write>(
     applies_to: &Option<ApplySpec<N>>,
     f: &mut fmt::Formatter<W>,
 ) -> fmt::Result
-    ensures { DisplaysOnOk W.write_str_gives f.old result (text_of N.output (print_apply_clause applies_to.now)) f.new }
+    ensures { DisplaysOnOk W.write_str_gives f.old result
+        (text_of N.output (print_apply_clause applies_to.now)) f.new }
 {
     match applies_to {
         None => Ok(()),
@@ -149,7 +157,8 @@ fn write_filled<N: fmt::Display, W: fmt::Write>(
     spec: &ApplySpec<N>,
     f: &mut fmt::Formatter<W>,
 ) -> fmt::Result
-    ensures { DisplaysOnOk W.write_str_gives f.old result (text_of N.output (print_filled spec.now)) f.new }
+    ensures { DisplaysOnOk W.write_str_gives f.old result
+        (text_of N.output (print_filled spec.now)) f.new }
 {
     if spec.principal_types.is_empty() || spec.resource_types.is_empty() {
         return Ok(());
@@ -162,7 +171,8 @@ fn write_applies<N: fmt::Display, W: fmt::Write>(
     spec: &ApplySpec<N>,
     f: &mut fmt::Formatter<W>,
 ) -> fmt::Result
-    ensures { DisplaysOnOk W.write_str_gives f.old result (text_of N.output (print_applies spec.now)) f.new }
+    ensures { DisplaysOnOk W.write_str_gives f.old result
+        (text_of N.output (print_applies spec.now)) f.new }
 {
     write!(f, " appliesTo {{\n  principal: ")?;
     write_list(&spec.principal_types, f)?;
@@ -176,7 +186,8 @@ fn write_context<N: fmt::Display, W: fmt::Write>(
     context: &AttributesOrContext<N>,
     f: &mut fmt::Formatter<W>,
 ) -> fmt::Result
-    ensures { DisplaysOnOk W.write_str_gives f.old result (text_of N.output (print_context context.now)) f.new }
+    ensures { DisplaysOnOk W.write_str_gives f.old result
+        (text_of N.output (print_context context.now)) f.new }
 {
     write!(f, ",\n  context: ")?;
     context.fmt(f)?;

@@ -13,7 +13,10 @@ use cedar_written::{RefName, Step};
 /// the order of fields and keys; and where none is, all but the names stays as it was. It does nothing when it runs.
 pub fn namespaces_are_walked_in_order<N: RefName, S: Step<N>>()
     ensures first { (s : S) (n : NamespaceDefinition N N.RefName)
-        → result_err (through_namespace N.RefName S.Made.RefName (S.step s) n) ≡ first_refusal (S.step s) (references_of_namespace n) }
-    ensures same { (s : S) (n : NamespaceDefinition N N.RefName) (made : NamespaceDefinition S.Made S.Made.RefName)
-        → through_namespace N.RefName S.Made.RefName (S.step s) n ≡ Ok made → bare_namespace made ≡ bare_namespace n }
+        → result_err (through_namespace N.RefName S.Made.RefName (S.step s) n)
+        ≡ first_refusal (S.step s) (references_of_namespace n) }
+    ensures same { (s : S) (n : NamespaceDefinition N N.RefName)
+        (made : NamespaceDefinition S.Made S.Made.RefName)
+        → through_namespace N.RefName S.Made.RefName (S.step s) n ≡ Ok made → bare_namespace made
+        ≡ bare_namespace n }
 {}

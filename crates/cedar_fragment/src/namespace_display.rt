@@ -42,7 +42,8 @@ fn write_namespace<N: RefName + fmt::Display, W: fmt::Write>(
     definition: &NamespaceDefinition<N>,
     f: &mut fmt::Formatter<W>,
 ) -> fmt::Result
-    ensures { DisplaysOnOk W.write_str_gives f.old result (text_of N.output (print_under path.now definition.now)) f.new }
+    ensures { DisplaysOnOk W.write_str_gives f.old result
+        (text_of N.output (print_under path.now definition.now)) f.new }
 {
     match path {
         None => definition.fmt(f),
@@ -56,7 +57,8 @@ fn write_named<N: RefName + fmt::Display, W: fmt::Write>(
     definition: &NamespaceDefinition<N>,
     f: &mut fmt::Formatter<W>,
 ) -> fmt::Result
-    ensures { DisplaysOnOk W.write_str_gives f.old result (text_of N.output (print_named path.now definition.now)) f.new }
+    ensures { DisplaysOnOk W.write_str_gives f.old result
+        (text_of N.output (print_named path.now definition.now)) f.new }
 {
     write_annotations(&definition.annotations, f)?;
     write_namespace_head(path, f)?;
@@ -66,7 +68,8 @@ fn write_named<N: RefName + fmt::Display, W: fmt::Write>(
 
 /// Writes the line that opens a namespace.
 fn write_namespace_head<W: fmt::Write>(path: &Name, f: &mut fmt::Formatter<W>) -> fmt::Result
-    ensures { DisplaysOnOk W.write_str_gives f.old result (text_of nameless (namespace_head path.now)) f.new }
+    ensures { DisplaysOnOk W.write_str_gives f.old result
+        (text_of nameless (namespace_head path.now)) f.new }
 {
     write!(f, "namespace {path} {{\n")
 }
@@ -77,7 +80,8 @@ fn write_common_types<N: fmt::Display, W: fmt::Write>(
     common_types: &Map<CommonTypeId, CommonType<N>>,
     f: &mut fmt::Formatter<W>,
 ) -> fmt::Result
-    ensures { DisplaysOnOk W.write_str_gives f.old result (text_of N.output (flat_map print_common common_types.now)) f.new }
+    ensures { DisplaysOnOk W.write_str_gives f.old result
+        (text_of N.output (flat_map print_common common_types.now)) f.new }
 {
     for (id, common) in common_types.iter() {
         write_common_type(id, common, f)?;
@@ -91,7 +95,8 @@ fn write_common_type<N: fmt::Display, W: fmt::Write>(
     common: &CommonType<N>,
     f: &mut fmt::Formatter<W>,
 ) -> fmt::Result
-    ensures { DisplaysOnOk W.write_str_gives f.old result (text_of N.output (print_common (id.now, common.now))) f.new }
+    ensures { DisplaysOnOk W.write_str_gives f.old result
+        (text_of N.output (print_common (id.now, common.now))) f.new }
 {
     write_annotations(&common.annotations, f)?;
     write_common_head(id, f)?;
@@ -101,7 +106,8 @@ fn write_common_type<N: fmt::Display, W: fmt::Write>(
 
 /// Writes what stands before the type that a common type is.
 fn write_common_head<W: fmt::Write>(id: &CommonTypeId, f: &mut fmt::Formatter<W>) -> fmt::Result
-    ensures { DisplaysOnOk W.write_str_gives f.old result (text_of nameless (common_head id.now)) f.new }
+    ensures { DisplaysOnOk W.write_str_gives f.old result
+        (text_of nameless (common_head id.now)) f.new }
 {
     write!(f, "type {id} = ")
 }
@@ -112,7 +118,8 @@ fn write_entity_types<N: fmt::Display, W: fmt::Write>(
     entity_types: &Map<UnreservedId, EntityType<N>>,
     f: &mut fmt::Formatter<W>,
 ) -> fmt::Result
-    ensures { DisplaysOnOk W.write_str_gives f.old result (text_of N.output (flat_map print_entity_declaration entity_types.now)) f.new }
+    ensures { DisplaysOnOk W.write_str_gives f.old result
+        (text_of N.output (flat_map print_entity_declaration entity_types.now)) f.new }
 {
     for (id, entity) in entity_types.iter() {
         write_entity_type(id, entity, f)?;
@@ -126,7 +133,8 @@ fn write_entity_type<N: fmt::Display, W: fmt::Write>(
     entity: &EntityType<N>,
     f: &mut fmt::Formatter<W>,
 ) -> fmt::Result
-    ensures { DisplaysOnOk W.write_str_gives f.old result (text_of N.output (print_entity_declaration (id.now, entity.now))) f.new }
+    ensures { DisplaysOnOk W.write_str_gives f.old result
+        (text_of N.output (print_entity_declaration (id.now, entity.now))) f.new }
 {
     write_annotations(&entity.annotations, f)?;
     write_entity_head(id, f)?;
@@ -136,7 +144,8 @@ fn write_entity_type<N: fmt::Display, W: fmt::Write>(
 
 /// Writes the name of an entity type.
 fn write_entity_head<W: fmt::Write>(id: &UnreservedId, f: &mut fmt::Formatter<W>) -> fmt::Result
-    ensures { DisplaysOnOk W.write_str_gives f.old result (text_of nameless (entity_head id.now)) f.new }
+    ensures { DisplaysOnOk W.write_str_gives f.old result
+        (text_of nameless (entity_head id.now)) f.new }
 {
     write!(f, "entity {id}")
 }
@@ -147,7 +156,8 @@ fn write_actions<N: RefName + fmt::Display, W: fmt::Write>(
     actions: &Map<Text, ActionType<N>>,
     f: &mut fmt::Formatter<W>,
 ) -> fmt::Result
-    ensures { DisplaysOnOk W.write_str_gives f.old result (text_of N.output (flat_map print_action_declaration actions.now)) f.new }
+    ensures { DisplaysOnOk W.write_str_gives f.old result
+        (text_of N.output (flat_map print_action_declaration actions.now)) f.new }
 {
     for (id, action) in actions.iter() {
         write_action(id, action, f)?;
@@ -161,7 +171,8 @@ fn write_action<N: RefName + fmt::Display, W: fmt::Write>(
     action: &ActionType<N>,
     f: &mut fmt::Formatter<W>,
 ) -> fmt::Result
-    ensures { DisplaysOnOk W.write_str_gives f.old result (text_of N.output (print_action_declaration (id.now, action.now))) f.new }
+    ensures { DisplaysOnOk W.write_str_gives f.old result
+        (text_of N.output (print_action_declaration (id.now, action.now))) f.new }
 {
     write_annotations(&action.annotations, f)?;
     write_action_head(id, f)?;
@@ -171,7 +182,8 @@ fn write_action<N: RefName + fmt::Display, W: fmt::Write>(
 
 /// Writes the id of an action.
 fn write_action_head<W: fmt::Write>(id: &Text, f: &mut fmt::Formatter<W>) -> fmt::Result
-    ensures { DisplaysOnOk W.write_str_gives f.old result (text_of nameless (action_head id.now)) f.new }
+    ensures { DisplaysOnOk W.write_str_gives f.old result
+        (text_of nameless (action_head id.now)) f.new }
 {
     let id = Quoted(id);
     write!(f, "action {id}")

@@ -23,7 +23,8 @@ impl NamespaceDefinition<RawName> {
         ns: Option<&InternalName>,
     ) -> Mem<NamespaceDefinition<ConditionalName>>
         ensures answer { Makes result
-            (through_namespace over_raw over_conditional (qualifying (option_copied ns.entry)) self) }
+            (through_namespace over_raw over_conditional
+            (qualifying (option_copied ns.entry)) self) }
         ensures same { IfOk result (λ made. bare_namespace made ≡ bare_namespace self) }
     {
         walk_unrefused(alloc, &Qualifying { namespace: ns }, self)

@@ -43,7 +43,8 @@ fn walk_names_and<N: Drop, S: Step<N>, A: Walk<N, S> + Drop>(
     names: Items<N>,
     behind: A,
 ) -> Out<(Items<S::Made>, A::Full), S::Refusal>
-    ensures names { IfOk result (λ made. through_names (S.step step.now) kind.Entity names ≡ Ok made.0) }
+    ensures names { IfOk result (λ made. through_names (S.step step.now) kind.Entity names
+        ≡ Ok made.0) }
     ensures behind { IfOk result (λ made. A.through step.now behind ≡ Ok made.1) }
     ensures refused { IfRefused result (FirstRefusal
         (through_names (S.step step.now) kind.Entity names) (A.through step.now behind)) }

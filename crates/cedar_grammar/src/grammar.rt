@@ -19,7 +19,8 @@ pub fn grammar_viable()
 
     // The same, where the levels are left open.
     ensures viable { (tokens : List TextToken)
-        → Viable tokens ↔ ((further : List TextToken) × (s : Schema) × Reads (tokens ++ further) s) }
+        → Viable tokens
+        ↔ ((further : List TextToken) × (s : Schema) × Reads (tokens ++ further) s) }
 {}
 
 /// A law with no work to do: the types of a level are exactly those of all levels that nest no

@@ -85,7 +85,8 @@ fn action_node(
     children: &Children<EntityUID>,
     uses: &Uses,
 ) -> Mem<(EntityUID, ValidatorActionId)>
-    ensures { IfOk result (IsActionNode (names_of all_defs.now) children.now.entries uses.now (uid, outline)) }
+    ensures { IfOk result
+        (IsActionNode (names_of all_defs.now) children.now.entries uses.now (uid, outline)) }
 {
     let principals = types_meant(alloc, all_defs, &outline.applies_to.principal_apply_spec)?;
     let resources = types_meant(alloc, all_defs, &outline.applies_to.resource_apply_spec)?;
@@ -120,7 +121,8 @@ fn action_nodes(
     children: &Children<EntityUID>,
     uses: &Uses,
 ) -> Mem<Map<EntityUID, ValidatorActionId>>
-    ensures { IfOk result (AllZip (IsActionNode (names_of all_defs.now) children.now.entries uses.now) outlines) }
+    ensures { IfOk result
+        (AllZip (IsActionNode (names_of all_defs.now) children.now.entries uses.now) outlines) }
 {
     let mut nodes = Vec::new(alloc);
     for (uid, outline) in outlines.into_entries() {
@@ -135,7 +137,8 @@ fn close_actions(
     alloc: Global,
     nodes: Map<EntityUID, ValidatorActionId>,
 ) -> Out<Map<EntityUID, ValidatorActionId>, SchemaError>
-    ensures closed { IfOk result (IsClosure resolved.uid_cmp action_name action_descendants (action_with []) nodes) }
+    ensures closed { IfOk result
+        (IsClosure resolved.uid_cmp action_name action_descendants (action_with []) nodes) }
     ensures acyclic { IfOk result (λ _. IsAcyclic resolved.uid_cmp action_descendants nodes) }
     ensures refused { IfRefused result (TellsCycle nodes) }
 {
@@ -154,10 +157,16 @@ pub fn resolved_actions(
     outlines: Map<EntityUID, ActionOutline>,
     uses: &Map<UsePlace, Type>,
 ) -> Out<Map<EntityUID, ValidatorActionId>, SchemaError>
-    ensures made { IfOk result (AllZip (MakesAction (names_of all_defs.now) (map action_outline_in outlines) uses.now) outlines) }
-    ensures acyclic { IfOk result (λ _. (uid : Uid) → ActionOutlineDescends (names_of all_defs.now) (map action_outline_in outlines) uid uid → ⊥) }
+    ensures made { IfOk result
+        (AllZip (MakesAction (names_of all_defs.now)
+        (map action_outline_in outlines) uses.now) outlines) }
+    ensures acyclic { IfOk result (λ _. (uid : Uid)
+        → ActionOutlineDescends (names_of all_defs.now) (map action_outline_in outlines) uid uid
+        → ⊥) }
     ensures refused { IfRefused result (λ e. (uid : Uid) × (told e ≡ CycleInActionHierarchy uid)
-        × IsLeast uid_cmp (λ u. ActionOutlineDescends (names_of all_defs.now) (map action_outline_in outlines) u u) uid) }
+        × IsLeast uid_cmp
+        (λ u. ActionOutlineDescends (names_of all_defs.now)
+        (map action_outline_in outlines) u u) uid) }
 {
     let children = gather(alloc, all_defs, &outlines)?;
     let nodes = action_nodes(alloc, all_defs, outlines, &children, uses)?;

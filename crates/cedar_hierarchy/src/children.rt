@@ -15,7 +15,8 @@ pub(crate) type Children<K> = BTreeMap<K, Set<K>>;
 /// Takes the children of a key out.
 fn take_children<K: Ord + Drop>(alloc: Global, parent: &K, children: &mut Children<K>) -> Set<K>
     ensures taken { result ≡ children_at K.cmp children.old.entries parent.now }
-    ensures others { (other : K) → get K.cmp children.new.entries other ≡ cond (is_at (K.cmp parent.now) other) None (get K.cmp children.old.entries other) }
+    ensures others { (other : K) → get K.cmp children.new.entries other
+        ≡ cond (is_at (K.cmp parent.now) other) None (get K.cmp children.old.entries other) }
 {
     match children.remove(parent) {
         Some(found) => found,
@@ -31,7 +32,8 @@ fn add_child<K: Ord + Drop>(
     children: &mut Children<K>,
 ) -> Mem<()>
     ensures { OnOk result ((p c : K) → is_child K.cmp children.new.entries p c
-        ≡ ((is_at (K.cmp p) parent && is_at (K.cmp child) c) || is_child K.cmp children.old.entries p c)) }
+        ≡ ((is_at (K.cmp p) parent && is_at
+        (K.cmp child) c) || is_child K.cmp children.old.entries p c)) }
 {
     let mut siblings = take_children(alloc, &parent, children);
     siblings.insert(child)?;
@@ -47,7 +49,8 @@ pub(crate) fn link<K: Ord + Dup + Drop>(
     children: &mut Children<K>,
 ) -> Mem<()>
     ensures { OnOk result ((p c : K) → is_child K.cmp children.new.entries p c
-        ≡ ((contains K.cmp parents.now p && is_at (K.cmp child.now) c) || is_child K.cmp children.old.entries p c)) }
+        ≡ ((contains K.cmp parents.now p && is_at
+        (K.cmp child.now) c) || is_child K.cmp children.old.entries p c)) }
 {
     for parent in parents.iter() {
         let parent = parent.dup(alloc)?;

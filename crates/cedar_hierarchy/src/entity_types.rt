@@ -61,8 +61,11 @@ fn standard_type(
     uses: &Uses,
 ) -> Mem<ValidatorEntityType>
     ensures name { IfOk result (λ ty. type_name ty ≡ name) }
-    ensures attributes { IfOk result (λ ty. type_attributes ty ≡ (record_at_use (type_at_use uses.now (Shape name))).0) }
-    ensures kind { IfOk result (λ ty. ty.kind ≡ standard_kind (record_at_use (type_at_use uses.now (Shape name))).1 (type_at_use uses.now (Tags name))) }
+    ensures attributes { IfOk result (λ ty. type_attributes ty
+        ≡ (record_at_use (type_at_use uses.now (Shape name))).0) }
+    ensures kind { IfOk result (λ ty. ty.kind
+        ≡ standard_kind (record_at_use (type_at_use uses.now (Shape name))).1
+        (type_at_use uses.now (Tags name))) }
     ensures loc { IfOk result (λ ty. ty.loc ≡ loc) }
 {
     let tags = tags_of(alloc, &name, uses)?;
@@ -80,7 +83,8 @@ fn childless(
     uses: &Uses,
 ) -> Mem<ValidatorEntityType>
     ensures name { IfOk result (λ ty. type_name ty ≡ name) }
-    ensures attributes { IfOk result (λ ty. type_attributes ty ≡ entity_attributes uses.now name choices) }
+    ensures attributes { IfOk result (λ ty. type_attributes ty
+        ≡ entity_attributes uses.now name choices) }
     ensures kind { IfOk result (λ ty. ty.kind ≡ entity_kind uses.now name choices) }
     ensures loc { IfOk result (λ ty. ty.loc ≡ loc) }
 {
@@ -134,7 +138,8 @@ fn close_entity_types(
     alloc: Global,
     nodes: Map<EntityType, ValidatorEntityType>,
 ) -> Mem<Map<EntityType, ValidatorEntityType>>
-    ensures { IfOk result (IsClosure entity_cmp type_name (λ ty. ty.descendants) (type_with []) nodes) }
+    ensures { IfOk result
+        (IsClosure entity_cmp type_name (λ ty. ty.descendants) (type_with []) nodes) }
 {
     match compute_tc(alloc, nodes.into_map(), false) {
         Ok(closed) => Ok(Map::from_map(closed)),
@@ -151,7 +156,9 @@ pub fn resolved_entity_types(
     outlines: Map<EntityType, EntityOutline>,
     uses: &Map<UsePlace, Type>,
 ) -> Mem<Map<EntityType, ValidatorEntityType>>
-    ensures { IfOk result (AllZip (MakesEntity (names_of all_defs.now) (map entity_outline_in outlines) uses.now) outlines) }
+    ensures { IfOk result
+        (AllZip (MakesEntity (names_of all_defs.now)
+        (map entity_outline_in outlines) uses.now) outlines) }
 {
     let children = gather(alloc, all_defs, &outlines)?;
     let nodes = entity_nodes(alloc, outlines, &children, uses)?;

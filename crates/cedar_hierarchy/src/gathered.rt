@@ -21,7 +21,8 @@ pub(crate) trait HasParents<K: Ord> {
 
     /// The keys of its parents. It fails only for want of memory.
     fn parents(&self, alloc: Global, all_defs: &AllDefs) -> Mem<Set<K>>
-        ensures { IfOk result (λ keys. (key : K) → contains K.cmp keys key ≡ is_parent (names_of all_defs.now) self.now key) };
+        ensures { IfOk result (λ keys. (key : K) → contains K.cmp keys key
+            ≡ is_parent (names_of all_defs.now) self.now key) };
 }
 
 /// The children of each key that is a parent: all that have it as a parent.
@@ -30,7 +31,8 @@ pub(crate) fn gather<K: Ord + Dup + Drop, P: HasParents<K>>(
     all_defs: &AllDefs,
     outlines: &Map<K, P>,
 ) -> Mem<Children<K>>
-    ensures gathered { IfOk result (λ children. (parent child : K) → is_child K.cmp children.entries parent child
+    ensures gathered { IfOk result (λ children. (parent child : K)
+        → is_child K.cmp children.entries parent child
         ≡ has_parent K.cmp (P.is_parent (names_of all_defs.now)) outlines.now parent child) }
     ensures ordered { IsSortedMap K.cmp outlines.now }
 {

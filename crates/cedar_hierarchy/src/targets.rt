@@ -31,7 +31,8 @@ pub(crate) trait IsReference<K: Ord>: Ord {
 
     /// What the reference means, unless it means nothing that has a key. It fails only for want of memory.
     fn meant(&self, alloc: Global, all_defs: &AllDefs) -> Mem<Option<K>>
-        ensures { IfOk result (λ o. (key : K) → is_here K.cmp o key ≡ is_meant (names_of all_defs.now) self.now key) };
+        ensures { IfOk result (λ o. (key : K) → is_here K.cmp o key
+            ≡ is_meant (names_of all_defs.now) self.now key) };
 }
 
 /// What references mean.
@@ -40,7 +41,8 @@ pub(crate) fn all_meant<K: Ord + Drop, R: IsReference<K>>(
     all_defs: &AllDefs,
     references: &Set<R>,
 ) -> Mem<Set<K>>
-    ensures keys { IfOk result (λ keys. (key : K) → contains K.cmp keys key ≡ list_any (λ r. R.is_meant (names_of all_defs.now) r key) references.now) }
+    ensures keys { IfOk result (λ keys. (key : K) → contains K.cmp keys key
+        ≡ list_any (λ r. R.is_meant (names_of all_defs.now) r key) references.now) }
     ensures ordered { IfOk result (λ keys. IsStrictlySortedBy K.cmp keys) }
 {
     let mut keys = Set::new(alloc);
@@ -57,8 +59,10 @@ fn add_meant<K: Ord + Drop, R: IsReference<K>>(
     reference: &R,
     keys: &mut Set<K>,
 ) -> Mem<()>
-    ensures adds { OnOk result ((key : K) → contains K.cmp keys.new key ≡ (R.is_meant (names_of all_defs.now) reference.now key || contains K.cmp keys.old key)) }
-    ensures ordered { OnOk result (IsStrictlySortedBy K.cmp keys.old → IsStrictlySortedBy K.cmp keys.new) }
+    ensures adds { OnOk result ((key : K) → contains K.cmp keys.new key
+        ≡ (R.is_meant (names_of all_defs.now) reference.now key || contains K.cmp keys.old key)) }
+    ensures ordered { OnOk result (IsStrictlySortedBy K.cmp keys.old
+        → IsStrictlySortedBy K.cmp keys.new) }
 {
     let found = reference.meant(alloc, all_defs)?;
     add_found(found, keys)
@@ -67,8 +71,10 @@ fn add_meant<K: Ord + Drop, R: IsReference<K>>(
 /// Puts a key that was found to the others.
 #[tactic(auto, using(crate::proofs::Meant::puts))]
 fn add_found<K: Ord + Drop>(found: Option<K>, keys: &mut Set<K>) -> Mem<()>
-    ensures adds { OnOk result ((key : K) → contains K.cmp keys.new key ≡ (is_here K.cmp found key || contains K.cmp keys.old key)) }
-    ensures ordered { OnOk result (IsStrictlySortedBy K.cmp keys.old → IsStrictlySortedBy K.cmp keys.new) }
+    ensures adds { OnOk result ((key : K) → contains K.cmp keys.new key
+        ≡ (is_here K.cmp found key || contains K.cmp keys.old key)) }
+    ensures ordered { OnOk result (IsStrictlySortedBy K.cmp keys.old
+        → IsStrictlySortedBy K.cmp keys.new) }
 {
     match found {
         None => Ok(()),
@@ -136,8 +142,10 @@ fn declared_action(
     ty: &InternalName,
     id: &Text,
 ) -> Mem<Option<EntityUID>>
-    ensures { IfOk result (λ o. MatchOption o (is_action (names_of all_defs.now) (action_at id.now ty.now) ≡ false)
-        (λ uid. (is_action (names_of all_defs.now) (action_at id.now ty.now) ≡ true) × (uid_in uid ≡ action_at id.now ty.now))) }
+    ensures { IfOk result
+        (λ o. MatchOption o (is_action (names_of all_defs.now) (action_at id.now ty.now) ≡ false)
+        (λ uid. (is_action (names_of all_defs.now) (action_at id.now ty.now) ≡ true)
+        × (uid_in uid ≡ action_at id.now ty.now))) }
 {
     match action_named(alloc, ty, id)? {
         None => Ok(None),
@@ -163,7 +171,8 @@ fn find_action(
     all_defs: &AllDefs,
     parent: &ActionEntityUID<ConditionalName>,
 ) -> Mem<Option<EntityUID>>
-    ensures { IfOk result (λ o. option_map uid_in o ≡ action_target (names_of all_defs.now) (action_reference_of parent.now)) }
+    ensures { IfOk result (λ o. option_map uid_in o
+        ≡ action_target (names_of all_defs.now) (action_reference_of parent.now)) }
 {
     for possibility in parent.ty().possibilities() {
         let found = declared_action(alloc, all_defs, possibility, &parent.id)?;

@@ -52,7 +52,8 @@ fn missing_namespace(value: Option<&Value>) -> Option<JsonDeserializationAdvice>
 
 /// What to do about a text that was refused, by its first character other than white space and by the value that it is.
 fn advice_on(text: &str, value: Option<&Value>) -> Option<JsonDeserializationAdvice>
-    ensures { result ≡ advice_behind (trim_start text.now) (option_map view (option_copied value.entry)) }
+    ensures { result
+        ≡ advice_behind (trim_start text.now) (option_map view (option_copied value.entry)) }
 {
     match text.trim_start().as_bytes().first() {
         None => None,
@@ -101,7 +102,8 @@ fn read_value(
     ensures shape { IfOk result (λ f. IsFragment (view value.now) f) }
     ensures once { IfOk result (λ _. repeats text.now (view value.now) ≡ None) }
     ensures clean { IfOk result (λ _. value_fault text.now (Some (view value.now)) ≡ None) }
-    ensures refused { IfRefused result (λ e. value_fault text.now (Some (view value.now)) ≡ Some e) }
+    ensures refused { IfRefused result (λ e. value_fault text.now (Some (view value.now))
+        ≡ Some e) }
 {
     refuse_repeats(alloc, text, value)?;
     read_fragment(alloc, value)

@@ -67,7 +67,8 @@ impl JsonDeserializationError {
 
     /// The same error, behind this key or place of the value in which it was found.
     pub fn behind(self, alloc: Global, key: &str) -> Mem<JsonDeserializationError>
-        ensures { IfOk result (λ e. e ≡ json_error (fault_of self) (key.now ∷ path_of self) (advice_of self)) }
+        ensures { IfOk result (λ e. e
+            ≡ json_error (fault_of self) (key.now ∷ path_of self) (advice_of self)) }
     {
         let key = Text::new(alloc, key)?;
         let JsonDeserializationError {

@@ -183,7 +183,8 @@ impl fmt::Display for NameKind {
 
 /// Writes that the object may not have these keys.
 fn write_unexpected<W: fmt::Write>(fields: &[Text], f: &mut fmt::Formatter<W>) -> fmt::Result
-    ensures { WritesOnOk W.write_str_gives f.old result (codes "unexpected field: " ++ listed fields.now) f.new }
+    ensures { WritesOnOk W.write_str_gives f.old result (codes "unexpected field: "
+        ++ listed fields.now) f.new }
 {
     match fields.split_first() {
         None => write!(f, "unexpected field: "),

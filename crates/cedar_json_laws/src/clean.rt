@@ -20,13 +20,23 @@ ghost use Rattle.cedar_json_namespaces.specs.Namespaces.{IsFragment, IsNamespace
 /// A law of shapes and faults: a value that has the shape of a structure has no fault as one. So a value is refused as a
 /// structure exactly where it has the shape of none. It does nothing when it runs.
 pub fn what_has_a_shape_has_no_fault()
-    ensures ty { (d : Data) (t : SchemaType RawName) → Part 129 set.Type d t → part_fault 129 set.Type d ≡ None }
-    ensures attribute { (d : Data) (a : TypeOfAttribute RawName) → AttributeShape (Part 129 set.Attribute) d a → attribute_fault (part_fault 129 set.Attribute) d ≡ None }
-    ensures common_type { (d : Data) (c : CommonType RawName) → IsCommonType d c → common_type_fault d ≡ None }
-    ensures entity_type { (d : Data) (e : EntityType RawName) → IsEntityType d e → entity_fault d ≡ None }
-    ensures action { (d : Data) (a : ActionType RawName over_raw) → IsAction d a → action_fault d ≡ None }
-    ensures applies_to { (d : Data) (a : ApplySpec RawName) → IsApplySpec d a → apply_fault d ≡ None }
-    ensures parent { (d : Data) (a : ActionEntityUID RawName over_raw) → IsParent d a → parent_fault d ≡ None }
-    ensures namespace { (d : Data) (n : NamespaceDefinition RawName over_raw) → IsNamespace d n → namespace_fault d ≡ None }
-    ensures fragment { (d : Data) (f : Fragment RawName over_raw) → IsFragment d f → fragment_fault d ≡ None }
+    ensures ty { (d : Data) (t : SchemaType RawName) → Part 129 set.Type d t
+        → part_fault 129 set.Type d ≡ None }
+    ensures attribute { (d : Data) (a : TypeOfAttribute RawName)
+        → AttributeShape (Part 129 set.Attribute) d a
+        → attribute_fault (part_fault 129 set.Attribute) d ≡ None }
+    ensures common_type { (d : Data) (c : CommonType RawName) → IsCommonType d c
+        → common_type_fault d ≡ None }
+    ensures entity_type { (d : Data) (e : EntityType RawName) → IsEntityType d e → entity_fault d
+        ≡ None }
+    ensures action { (d : Data) (a : ActionType RawName over_raw) → IsAction d a → action_fault d
+        ≡ None }
+    ensures applies_to { (d : Data) (a : ApplySpec RawName) → IsApplySpec d a → apply_fault d
+        ≡ None }
+    ensures parent { (d : Data) (a : ActionEntityUID RawName over_raw) → IsParent d a
+        → parent_fault d ≡ None }
+    ensures namespace { (d : Data) (n : NamespaceDefinition RawName over_raw) → IsNamespace d n
+        → namespace_fault d ≡ None }
+    ensures fragment { (d : Data) (f : Fragment RawName over_raw) → IsFragment d f
+        → fragment_fault d ≡ None }
 {}

@@ -19,8 +19,10 @@ fn read_entry<K: JsonKey + Drop, V: ReadDeclaration + Drop>(
     value: &Value,
 ) -> Out<(K, V), JsonDeserializationError>
     ensures shape { IfOk result (λ e. Entry K.named V.shapes key.now (view value.now) e.0 e.1) }
-    ensures clean { IfOk result (λ _. entry_fault K.key_fault V.fault key.now (view value.now) ≡ None) }
-    ensures refused { IfRefused result (λ e. entry_fault K.key_fault V.fault key.now (view value.now) ≡ Some e) }
+    ensures clean { IfOk result (λ _. entry_fault K.key_fault V.fault key.now (view value.now)
+        ≡ None) }
+    ensures refused { IfRefused result
+        (λ e. entry_fault K.key_fault V.fault key.now (view value.now) ≡ Some e) }
 {
     let name = K::from_key(alloc, key)?;
     let value = under(alloc, key, V::from_json_value(alloc, value))?;
@@ -33,9 +35,14 @@ fn read_members<K: Ord + JsonKey + Drop, V: ReadDeclaration + Drop>(
     alloc: Global,
     members: &Members<String, Value>,
 ) -> Out<Map<K, V>, JsonDeserializationError>
-    ensures shape { IfOk result (λ m. MapMembers K.cmp (Entry K.named V.shapes) (members_view members.now.entries) m) }
-    ensures clean { IfOk result (λ _. members_fault (entry_fault K.key_fault V.fault) (members_view members.now.entries) ≡ None) }
-    ensures refused { IfRefused result (λ e. members_fault (entry_fault K.key_fault V.fault) (members_view members.now.entries) ≡ Some e) }
+    ensures shape { IfOk result
+        (λ m. MapMembers K.cmp (Entry K.named V.shapes) (members_view members.now.entries) m) }
+    ensures clean { IfOk result
+        (λ _. members_fault (entry_fault K.key_fault V.fault) (members_view members.now.entries)
+        ≡ None) }
+    ensures refused { IfRefused result
+        (λ e. members_fault (entry_fault K.key_fault V.fault) (members_view members.now.entries)
+        ≡ Some e) }
 {
     let mut read = Map::new(alloc);
     for (key, member) in members.iter() {
@@ -51,8 +58,10 @@ fn read_map<K: Ord + JsonKey + Drop, V: ReadDeclaration + Drop>(
     value: &Value,
 ) -> Out<Map<K, V>, JsonDeserializationError>
     ensures shape { IfOk result (λ m. MapOf K.cmp (Entry K.named V.shapes) (view value.now) m) }
-    ensures clean { IfOk result (λ _. map_fault (entry_fault K.key_fault V.fault) (view value.now) ≡ None) }
-    ensures refused { IfRefused result (λ e. map_fault (entry_fault K.key_fault V.fault) (view value.now) ≡ Some e) }
+    ensures clean { IfOk result (λ _. map_fault (entry_fault K.key_fault V.fault) (view value.now)
+        ≡ None) }
+    ensures refused { IfRefused result
+        (λ e. map_fault (entry_fault K.key_fault V.fault) (view value.now) ≡ Some e) }
 {
     let Some(members) = value.as_object() else {
         return wrong_type(alloc, value, JsonKind::Object);
@@ -66,9 +75,13 @@ pub(crate) fn map_at<K: Ord + JsonKey + Drop, V: ReadDeclaration + Drop>(
     value: &Value,
     key: &str,
 ) -> Out<Map<K, V>, JsonDeserializationError>
-    ensures shape { IfOk result (λ m. At key.now (MapOf K.cmp (Entry K.named V.shapes)) (view value.now) m) }
-    ensures clean { IfOk result (λ _. needs key.now (map_fault (entry_fault K.key_fault V.fault)) (view value.now) ≡ None) }
-    ensures refused { IfRefused result (λ e. needs key.now (map_fault (entry_fault K.key_fault V.fault)) (view value.now) ≡ Some e) }
+    ensures shape { IfOk result
+        (λ m. At key.now (MapOf K.cmp (Entry K.named V.shapes)) (view value.now) m) }
+    ensures clean { IfOk result
+        (λ _. needs key.now (map_fault (entry_fault K.key_fault V.fault)) (view value.now) ≡ None) }
+    ensures refused { IfRefused result
+        (λ e. needs key.now (map_fault (entry_fault K.key_fault V.fault)) (view value.now)
+        ≡ Some e) }
 {
     let Some(member) = value.get(key) else {
         return missing(alloc, key);
@@ -82,9 +95,14 @@ pub(crate) fn map_unless_absent<K: Ord + JsonKey + Drop, V: ReadDeclaration + Dr
     value: &Value,
     key: &str,
 ) -> Out<Map<K, V>, JsonDeserializationError>
-    ensures shape { IfOk result (λ m. MayHave key.now (λ m. m ≡ []) (MapOf K.cmp (Entry K.named V.shapes)) (view value.now) m) }
-    ensures clean { IfOk result (λ _. allows key.now (map_fault (entry_fault K.key_fault V.fault)) (view value.now) ≡ None) }
-    ensures refused { IfRefused result (λ e. allows key.now (map_fault (entry_fault K.key_fault V.fault)) (view value.now) ≡ Some e) }
+    ensures shape { IfOk result (λ m. MayHave key.now (λ m. m
+        ≡ []) (MapOf K.cmp (Entry K.named V.shapes)) (view value.now) m) }
+    ensures clean { IfOk result
+        (λ _. allows key.now (map_fault (entry_fault K.key_fault V.fault)) (view value.now)
+        ≡ None) }
+    ensures refused { IfRefused result
+        (λ e. allows key.now (map_fault (entry_fault K.key_fault V.fault)) (view value.now)
+        ≡ Some e) }
 {
     match value.get(key) {
         None => Ok(Map::new(alloc)),

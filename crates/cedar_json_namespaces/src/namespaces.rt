@@ -113,7 +113,8 @@ fn read_definition(
     ensures shape { IfOk result (λ n. IsNamespace (view value.now) n) }
     ensures free { IfOk result (λ _. noted_fault key.now (view value.now) ≡ None) }
     ensures clean { IfOk result (λ _. namespaces.definition_fault key.now (view value.now) ≡ None) }
-    ensures refused { IfRefused result (λ e. namespaces.definition_fault key.now (view value.now) ≡ Some e) }
+    ensures refused { IfRefused result (λ e. namespaces.definition_fault key.now (view value.now)
+        ≡ Some e) }
 {
     let namespace = read_namespace(alloc, value)?;
     refuse_notes(alloc, key, value)?;
@@ -128,7 +129,8 @@ fn read_entry(
 ) -> Out<(Option<Name>, NamespaceDefinition<RawName>), JsonDeserializationError>
     ensures shape { IfOk result (λ e. NamespaceEntry key.now (view value.now) e.0 e.1) }
     ensures clean { IfOk result (λ _. namespace_entry_fault key.now (view value.now) ≡ None) }
-    ensures refused { IfRefused result (λ e. namespace_entry_fault key.now (view value.now) ≡ Some e) }
+    ensures refused { IfRefused result (λ e. namespace_entry_fault key.now (view value.now)
+        ≡ Some e) }
 {
     let name = read_name(alloc, key)?;
     let namespace = under(alloc, key, read_definition(alloc, key, value))?;
@@ -141,9 +143,13 @@ fn read_members(
     alloc: Global,
     members: &Members<String, Value>,
 ) -> Out<Map<Option<Name>, NamespaceDefinition<RawName>>, JsonDeserializationError>
-    ensures shape { IfOk result (λ m. MapMembers (option_cmp name_cmp) NamespaceEntry (members_view members.now.entries) m) }
-    ensures clean { IfOk result (λ _. members_fault namespace_entry_fault (members_view members.now.entries) ≡ None) }
-    ensures refused { IfRefused result (λ e. members_fault namespace_entry_fault (members_view members.now.entries) ≡ Some e) }
+    ensures shape { IfOk result
+        (λ m. MapMembers (option_cmp name_cmp) NamespaceEntry
+        (members_view members.now.entries) m) }
+    ensures clean { IfOk result
+        (λ _. members_fault namespace_entry_fault (members_view members.now.entries) ≡ None) }
+    ensures refused { IfRefused result
+        (λ e. members_fault namespace_entry_fault (members_view members.now.entries) ≡ Some e) }
 {
     let mut read = Map::new(alloc);
     for (key, member) in members.iter() {

@@ -64,8 +64,10 @@ fn read_parents(
     items: &Vec<Value>,
 ) -> Out<Items<ActionEntityUID<RawName>>, JsonDeserializationError>
     ensures shape { IfOk result (λ vs. EachItem IsParent (items_view items.now.items) vs) }
-    ensures clean { IfOk result (λ _. items_fault parent_fault 0 (items_view items.now.items) ≡ None) }
-    ensures refused { IfRefused result (λ e. items_fault parent_fault 0 (items_view items.now.items) ≡ Some e) }
+    ensures clean { IfOk result (λ _. items_fault parent_fault 0 (items_view items.now.items)
+        ≡ None) }
+    ensures refused { IfRefused result (λ e. items_fault parent_fault 0 (items_view items.now.items)
+        ≡ Some e) }
 {
     let mut read = Items::new(alloc);
     let mut place = 0usize;
@@ -83,8 +85,10 @@ fn parents_unless_null(
     value: &Value,
 ) -> Out<Option<Items<ActionEntityUID<RawName>>>, JsonDeserializationError>
     ensures shape { IfOk result (λ v. OrNull (ArrayOf IsParent) (view value.now) v) }
-    ensures clean { IfOk result (λ _. faults.unless_null (array_fault parent_fault) (view value.now) ≡ None) }
-    ensures refused { IfRefused result (λ e. faults.unless_null (array_fault parent_fault) (view value.now) ≡ Some e) }
+    ensures clean { IfOk result (λ _. faults.unless_null (array_fault parent_fault) (view value.now)
+        ≡ None) }
+    ensures refused { IfRefused result
+        (λ e. faults.unless_null (array_fault parent_fault) (view value.now) ≡ Some e) }
 {
     match value {
         Value::Null => Ok(None),
@@ -101,9 +105,14 @@ fn parents_at(
     alloc: Global,
     value: &Value,
 ) -> Out<Option<Items<ActionEntityUID<RawName>>>, JsonDeserializationError>
-    ensures shape { IfOk result (λ v. MayHave (codes "memberOf") Nothing (OrNull (ArrayOf IsParent)) (view value.now) v) }
-    ensures clean { IfOk result (λ _. allows (codes "memberOf") (faults.unless_null (array_fault parent_fault)) (view value.now) ≡ None) }
-    ensures refused { IfRefused result (λ e. allows (codes "memberOf") (faults.unless_null (array_fault parent_fault)) (view value.now) ≡ Some e) }
+    ensures shape { IfOk result
+        (λ v. MayHave (codes "memberOf") Nothing (OrNull (ArrayOf IsParent)) (view value.now) v) }
+    ensures clean { IfOk result
+        (λ _. allows (codes "memberOf") (faults.unless_null (array_fault parent_fault))
+        (view value.now) ≡ None) }
+    ensures refused { IfRefused result
+        (λ e. allows (codes "memberOf") (faults.unless_null (array_fault parent_fault))
+        (view value.now) ≡ Some e) }
 {
     match value.get("memberOf") {
         None => Ok(None),
@@ -118,7 +127,8 @@ fn values_unless_null(
 ) -> Out<Option<ValueMap>, JsonDeserializationError>
     ensures shape { IfOk result (λ v. OrNull (ValuesShape (ValuePart 129)) (view value.now) v) }
     ensures clean { IfOk result (λ _. faults.unless_null values_fault (view value.now) ≡ None) }
-    ensures refused { IfRefused result (λ e. faults.unless_null values_fault (view value.now) ≡ Some e) }
+    ensures refused { IfRefused result (λ e. faults.unless_null values_fault (view value.now)
+        ≡ Some e) }
 {
     match value {
         Value::Null => Ok(None),
@@ -131,9 +141,15 @@ fn values_unless_null(
 
 /// The attributes of an action at the key `attributes`, where it is there and not `null`.
 fn values_at(alloc: Global, value: &Value) -> Out<Option<ValueMap>, JsonDeserializationError>
-    ensures shape { IfOk result (λ v. MayHave (codes "attributes") Nothing (OrNull (ValuesShape (ValuePart 129))) (view value.now) v) }
-    ensures clean { IfOk result (λ _. allows (codes "attributes") (faults.unless_null values_fault) (view value.now) ≡ None) }
-    ensures refused { IfRefused result (λ e. allows (codes "attributes") (faults.unless_null values_fault) (view value.now) ≡ Some e) }
+    ensures shape { IfOk result
+        (λ v. MayHave (codes "attributes") Nothing (OrNull (ValuesShape (ValuePart 129)))
+        (view value.now) v) }
+    ensures clean { IfOk result
+        (λ _. allows (codes "attributes") (faults.unless_null values_fault) (view value.now)
+        ≡ None) }
+    ensures refused { IfRefused result
+        (λ e. allows (codes "attributes") (faults.unless_null values_fault) (view value.now)
+        ≡ Some e) }
 {
     match value.get("attributes") {
         None => Ok(None),

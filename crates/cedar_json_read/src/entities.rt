@@ -93,7 +93,8 @@ fn read_choices(alloc: Global, value: &Value) -> Out<NonEmpty<Text>, JsonDeseria
 fn choices_at(alloc: Global, value: &Value) -> Out<NonEmpty<Text>, JsonDeserializationError>
     ensures shape { IfOk result (λ c. At (codes "enum") AreChoices (view value.now) c) }
     ensures clean { IfOk result (λ _. needs (codes "enum") choices_fault (view value.now) ≡ None) }
-    ensures refused { IfRefused result (λ e. needs (codes "enum") choices_fault (view value.now) ≡ Some e) }
+    ensures refused { IfRefused result (λ e. needs (codes "enum") choices_fault (view value.now)
+        ≡ Some e) }
 {
     let Some(choices) = value.get("enum") else {
         return missing(alloc, "enum");
@@ -125,7 +126,8 @@ fn present(alloc: Global, value: &Value) -> Mem<Items<Text>>
 fn refuse_present(alloc: Global, value: &Value) -> Out<(), JsonDeserializationError>
     ensures shape { IfOk result (λ _. declarations.present (view value.now) ≡ []) }
     ensures clean { IfOk result (λ _. unexpected (declarations.present (view value.now)) ≡ None) }
-    ensures refused { IfRefused result (λ e. unexpected (declarations.present (view value.now)) ≡ Some e) }
+    ensures refused { IfRefused result (λ e. unexpected (declarations.present (view value.now))
+        ≡ Some e) }
 {
     let fields = present(alloc, value)?;
     refuse_fields(alloc, fields)
@@ -146,9 +148,14 @@ fn refuse_fields(alloc: Global, fields: Items<Text>) -> Out<(), JsonDeserializat
 
 /// The ids of an enumerated entity type, which has no key of a standard one.
 fn read_enumerated(alloc: Global, value: &Value) -> Out<NonEmpty<Text>, JsonDeserializationError>
-    ensures shape { IfOk result (λ c. At (codes "enum") AreChoices (view value.now) c × (declarations.present (view value.now) ≡ [])) }
-    ensures clean { IfOk result (λ _. first (needs (codes "enum") choices_fault (view value.now)) (unexpected (declarations.present (view value.now))) ≡ None) }
-    ensures refused { IfRefused result (λ e. first (needs (codes "enum") choices_fault (view value.now)) (unexpected (declarations.present (view value.now))) ≡ Some e) }
+    ensures shape { IfOk result (λ c. At (codes "enum") AreChoices (view value.now) c
+        × (declarations.present (view value.now) ≡ [])) }
+    ensures clean { IfOk result
+        (λ _. first (needs (codes "enum") choices_fault (view value.now))
+        (unexpected (declarations.present (view value.now))) ≡ None) }
+    ensures refused { IfRefused result
+        (λ e. first (needs (codes "enum") choices_fault (view value.now))
+        (unexpected (declarations.present (view value.now))) ≡ Some e) }
 {
     let choices = choices_at(alloc, value)?;
     refuse_present(alloc, value)?;
@@ -177,7 +184,8 @@ fn with_notes(
     kind: EntityTypeKind<RawName>,
 ) -> Out<EntityType<RawName>, JsonDeserializationError>
     ensures kind { IfOk result (λ e. e.kind ≡ kind) }
-    ensures shape { IfOk result (λ e. declarations.Noted (view value.now) e.annotations × (e.loc ≡ None)) }
+    ensures shape { IfOk result (λ e. declarations.Noted (view value.now) e.annotations
+        × (e.loc ≡ None)) }
     ensures clean { IfOk result (λ _. declarations.notes_fault (view value.now) ≡ None) }
     ensures refused { IfRefused result (λ e. declarations.notes_fault (view value.now) ≡ Some e) }
 {

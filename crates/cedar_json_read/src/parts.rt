@@ -37,8 +37,10 @@ pub(crate) fn shape_at(
     key: &str,
 ) -> Out<AttributesOrContext<RawName>, JsonDeserializationError>
     ensures shape { IfOk result (λ s. ShapeAt key.now (view value.now) s) }
-    ensures clean { IfOk result (λ _. allows key.now (part_fault 129 set.Type) (view value.now) ≡ None) }
-    ensures refused { IfRefused result (λ e. allows key.now (part_fault 129 set.Type) (view value.now) ≡ Some e) }
+    ensures clean { IfOk result (λ _. allows key.now (part_fault 129 set.Type) (view value.now)
+        ≡ None) }
+    ensures refused { IfRefused result
+        (λ e. allows key.now (part_fault 129 set.Type) (view value.now) ≡ Some e) }
 {
     match value.get(key) {
         None => Ok(AttributesOrContext::empty(alloc)),
@@ -70,9 +72,12 @@ pub(crate) fn if_not_null<T: ReadDeclaration + Drop>(
     value: &Value,
     key: &str,
 ) -> Out<Option<T>, JsonDeserializationError>
-    ensures shape { IfOk result (λ v. MayHave key.now Nothing (OrNull T.shapes) (view value.now) v) }
-    ensures clean { IfOk result (λ _. allows key.now (faults.unless_null T.fault) (view value.now) ≡ None) }
-    ensures refused { IfRefused result (λ e. allows key.now (faults.unless_null T.fault) (view value.now) ≡ Some e) }
+    ensures shape { IfOk result
+        (λ v. MayHave key.now Nothing (OrNull T.shapes) (view value.now) v) }
+    ensures clean { IfOk result (λ _. allows key.now (faults.unless_null T.fault) (view value.now)
+        ≡ None) }
+    ensures refused { IfRefused result
+        (λ e. allows key.now (faults.unless_null T.fault) (view value.now) ≡ Some e) }
 {
     match value.get(key) {
         None => Ok(None),

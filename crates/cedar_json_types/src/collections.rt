@@ -20,7 +20,8 @@ fn read_items<T: ReadPart + Drop>(
 ) -> Out<Items<T>, JsonDeserializationError>
     ensures shape { IfOk result (λ vs. EachItem T.shapes (items_view items.now.items) vs) }
     ensures clean { IfOk result (λ _. items_fault T.fault 0 (items_view items.now.items) ≡ None) }
-    ensures refused { IfRefused result (λ e. items_fault T.fault 0 (items_view items.now.items) ≡ Some e) }
+    ensures refused { IfRefused result (λ e. items_fault T.fault 0 (items_view items.now.items)
+        ≡ Some e) }
 {
     let mut read = Items::new(alloc);
     let mut place = 0usize;
@@ -60,8 +61,10 @@ fn read_entry<K: JsonKey + Drop, V: ReadPart + Drop>(
     value: &Value,
 ) -> Out<(K, V), JsonDeserializationError>
     ensures shape { IfOk result (λ e. Entry K.named V.shapes key.now (view value.now) e.0 e.1) }
-    ensures clean { IfOk result (λ _. entry_fault K.key_fault V.fault key.now (view value.now) ≡ None) }
-    ensures refused { IfRefused result (λ e. entry_fault K.key_fault V.fault key.now (view value.now) ≡ Some e) }
+    ensures clean { IfOk result (λ _. entry_fault K.key_fault V.fault key.now (view value.now)
+        ≡ None) }
+    ensures refused { IfRefused result
+        (λ e. entry_fault K.key_fault V.fault key.now (view value.now) ≡ Some e) }
 {
     let name = K::from_key(alloc, key)?;
     let value = under(alloc, key, V::from_json_value(alloc, value))?;
@@ -74,9 +77,14 @@ fn read_members<K: Ord + JsonKey + Drop, V: ReadPart + Drop>(
     alloc: Global,
     members: &Members<String, Value>,
 ) -> Out<Map<K, V>, JsonDeserializationError>
-    ensures shape { IfOk result (λ m. MapMembers K.cmp (Entry K.named V.shapes) (members_view members.now.entries) m) }
-    ensures clean { IfOk result (λ _. members_fault (entry_fault K.key_fault V.fault) (members_view members.now.entries) ≡ None) }
-    ensures refused { IfRefused result (λ e. members_fault (entry_fault K.key_fault V.fault) (members_view members.now.entries) ≡ Some e) }
+    ensures shape { IfOk result
+        (λ m. MapMembers K.cmp (Entry K.named V.shapes) (members_view members.now.entries) m) }
+    ensures clean { IfOk result
+        (λ _. members_fault (entry_fault K.key_fault V.fault) (members_view members.now.entries)
+        ≡ None) }
+    ensures refused { IfRefused result
+        (λ e. members_fault (entry_fault K.key_fault V.fault) (members_view members.now.entries)
+        ≡ Some e) }
 {
     let mut read = Map::new(alloc);
     for (key, member) in members.iter() {

@@ -63,7 +63,8 @@ pub fn if_there<T: ReadPart + Drop>(
     value: &Value,
     key: &str,
 ) -> Out<Option<T>, JsonDeserializationError>
-    ensures shape { IfOk result (λ v. MayHave key.now Nothing (Present T.shapes) (view value.now) v) }
+    ensures shape { IfOk result
+        (λ v. MayHave key.now Nothing (Present T.shapes) (view value.now) v) }
     ensures clean { IfOk result (λ _. allows key.now T.fault (view value.now) ≡ None) }
     ensures refused { IfRefused result (λ e. allows key.now T.fault (view value.now) ≡ Some e) }
 {
@@ -97,9 +98,11 @@ pub fn if_not_null<T: ReadPart + Drop>(
     value: &Value,
     key: &str,
 ) -> Out<Option<T>, JsonDeserializationError>
-    ensures shape { IfOk result (λ v. MayHave key.now Nothing (OrNull T.shapes) (view value.now) v) }
+    ensures shape { IfOk result
+        (λ v. MayHave key.now Nothing (OrNull T.shapes) (view value.now) v) }
     ensures clean { IfOk result (λ _. allows key.now (null_fault T.fault) (view value.now) ≡ None) }
-    ensures refused { IfRefused result (λ e. allows key.now (null_fault T.fault) (view value.now) ≡ Some e) }
+    ensures refused { IfRefused result (λ e. allows key.now (null_fault T.fault) (view value.now)
+        ≡ Some e) }
 {
     match value.get(key) {
         None => Ok(None),

@@ -99,7 +99,8 @@ fn takes_common(key: &str) -> bool
 
 /// Whether the type of an attribute may have the key.
 fn takes_attribute(key: &str) -> bool
-    ensures { result ≡ has_word (keys.type_keys (codes "required" ∷ codes "annotations" ∷ [])) key.now }
+    ensures { result
+        ≡ has_word (keys.type_keys (codes "required" ∷ codes "annotations" ∷ [])) key.now }
 {
     takes_type(key) || key == "required" || key == "annotations"
 }
@@ -136,9 +137,14 @@ fn refuse_unknown(
     members: &Map<String, Value>,
     set: KeySet,
 ) -> Out<(), JsonDeserializationError>
-    ensures shape { IfOk result (λ _. KeysWithin (keys.keys_of set) (members_view members.now.entries)) }
-    ensures clean { IfOk result (λ _. unknown_key (keys.shape_of set) (keys.keys_of set) (members_view members.now.entries) ≡ None) }
-    ensures refused { IfRefused result (λ e. unknown_key (keys.shape_of set) (keys.keys_of set) (members_view members.now.entries) ≡ Some e) }
+    ensures shape { IfOk result
+        (λ _. KeysWithin (keys.keys_of set) (members_view members.now.entries)) }
+    ensures clean { IfOk result
+        (λ _. unknown_key (keys.shape_of set) (keys.keys_of set) (members_view members.now.entries)
+        ≡ None) }
+    ensures refused { IfRefused result
+        (λ e. unknown_key (keys.shape_of set) (keys.keys_of set) (members_view members.now.entries)
+        ≡ Some e) }
 {
     for (key, _) in members.iter() {
         if !takes(set, key.as_str()) {
@@ -151,8 +157,10 @@ fn refuse_unknown(
 /// Refuses what is no object, or has a key that an object of this kind may not have.
 pub fn check_keys(alloc: Global, value: &Value, set: KeySet) -> Out<(), JsonDeserializationError>
     ensures shape { IfOk result (λ _. Keyed (keys.keys_of set) (view value.now)) }
-    ensures clean { IfOk result (λ _. keys_fault (keys.shape_of set) (keys.keys_of set) (view value.now) ≡ None) }
-    ensures refused { IfRefused result (λ e. keys_fault (keys.shape_of set) (keys.keys_of set) (view value.now) ≡ Some e) }
+    ensures clean { IfOk result
+        (λ _. keys_fault (keys.shape_of set) (keys.keys_of set) (view value.now) ≡ None) }
+    ensures refused { IfRefused result
+        (λ e. keys_fault (keys.shape_of set) (keys.keys_of set) (view value.now) ≡ Some e) }
 {
     let Some(members) = value.as_object() else {
         return wrong_type(alloc, value, JsonKind::Object);
@@ -170,7 +178,8 @@ pub fn refuse_key(
 ) -> Out<(), JsonDeserializationError>
     ensures shape { IfOk result (λ _. Lacks (key.now ∷ []) (view value.now)) }
     ensures clean { IfOk result (λ _. faults.excess shape key.now (view value.now) ≡ None) }
-    ensures refused { IfRefused result (λ e. faults.excess shape key.now (view value.now) ≡ Some e) }
+    ensures refused { IfRefused result (λ e. faults.excess shape key.now (view value.now)
+        ≡ Some e) }
 {
     if value.get(key).is_some() {
         return unknown(alloc, key, shape);

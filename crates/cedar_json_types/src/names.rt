@@ -84,7 +84,8 @@ pub fn read_reference(
 ) -> Out<RawName, JsonDeserializationError>
     ensures shape { IfOk result (λ n. IsName (view value.now) n) }
     ensures clean { IfOk result (λ _. in_text (reference_fault what) (view value.now) ≡ None) }
-    ensures refused { IfRefused result (λ e. in_text (reference_fault what) (view value.now) ≡ Some e) }
+    ensures refused { IfRefused result (λ e. in_text (reference_fault what) (view value.now)
+        ≡ Some e) }
 {
     let Some(text) = value.as_str() else {
         return wrong_type(alloc, value, JsonKind::String);

@@ -51,9 +51,12 @@ fn read_entry(
     key: &str,
     value: &Value,
 ) -> Out<(AnyId, Annotation), JsonDeserializationError>
-    ensures shape { IfOk result (λ e. Entry IdentifiesAny IsAnnotation key.now (view value.now) e.0 e.1) }
-    ensures clean { IfOk result (λ _. entry_fault any_id_fault annotation_fault key.now (view value.now) ≡ None) }
-    ensures refused { IfRefused result (λ e. entry_fault any_id_fault annotation_fault key.now (view value.now) ≡ Some e) }
+    ensures shape { IfOk result
+        (λ e. Entry IdentifiesAny IsAnnotation key.now (view value.now) e.0 e.1) }
+    ensures clean { IfOk result
+        (λ _. entry_fault any_id_fault annotation_fault key.now (view value.now) ≡ None) }
+    ensures refused { IfRefused result
+        (λ e. entry_fault any_id_fault annotation_fault key.now (view value.now) ≡ Some e) }
 {
     let id = AnyId::from_key(alloc, key)?;
     let annotation = under(alloc, key, Annotation::from_json_value(alloc, value))?;
@@ -66,9 +69,15 @@ fn read_members(
     alloc: Global,
     members: &Members<String, Value>,
 ) -> Out<Annotations, JsonDeserializationError>
-    ensures shape { IfOk result (λ a. MapMembers any_cmp (Entry IdentifiesAny IsAnnotation) (members_view members.now.entries) (annotation_entries a)) }
-    ensures clean { IfOk result (λ _. members_fault (entry_fault any_id_fault annotation_fault) (members_view members.now.entries) ≡ None) }
-    ensures refused { IfRefused result (λ e. members_fault (entry_fault any_id_fault annotation_fault) (members_view members.now.entries) ≡ Some e) }
+    ensures shape { IfOk result
+        (λ a. MapMembers any_cmp (Entry IdentifiesAny IsAnnotation)
+        (members_view members.now.entries) (annotation_entries a)) }
+    ensures clean { IfOk result
+        (λ _. members_fault (entry_fault any_id_fault annotation_fault)
+        (members_view members.now.entries) ≡ None) }
+    ensures refused { IfRefused result
+        (λ e. members_fault (entry_fault any_id_fault annotation_fault)
+        (members_view members.now.entries) ≡ Some e) }
 {
     let mut read = Annotations::new(alloc);
     for (key, member) in members.iter() {

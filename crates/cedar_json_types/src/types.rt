@@ -55,7 +55,8 @@ pub fn flag_at(
 fn check_plain(alloc: Global, value: &Value) -> Out<(), JsonDeserializationError>
     ensures shape { IfOk result (λ _. Lacks not_plain (view value.now)) }
     ensures clean { IfOk result (λ _. excess_of shape.NoFields not_plain (view value.now) ≡ None) }
-    ensures refused { IfRefused result (λ e. excess_of shape.NoFields not_plain (view value.now) ≡ Some e) }
+    ensures refused { IfRefused result (λ e. excess_of shape.NoFields not_plain (view value.now)
+        ≡ Some e) }
 {
     refuse_key(alloc, value, "element", JsonShape::NoFields)?;
     refuse_key(alloc, value, "attributes", JsonShape::NoFields)?;
@@ -68,7 +69,8 @@ fn check_plain(alloc: Global, value: &Value) -> Out<(), JsonDeserializationError
 fn check_set(alloc: Global, value: &Value) -> Out<(), JsonDeserializationError>
     ensures shape { IfOk result (λ _. Lacks not_set (view value.now)) }
     ensures clean { IfOk result (λ _. excess_of shape.SetType not_set (view value.now) ≡ None) }
-    ensures refused { IfRefused result (λ e. excess_of shape.SetType not_set (view value.now) ≡ Some e) }
+    ensures refused { IfRefused result (λ e. excess_of shape.SetType not_set (view value.now)
+        ≡ Some e) }
 {
     refuse_key(alloc, value, "attributes", JsonShape::SetType)?;
     refuse_key(alloc, value, "additionalAttributes", JsonShape::SetType)?;
@@ -79,8 +81,10 @@ fn check_set(alloc: Global, value: &Value) -> Out<(), JsonDeserializationError>
 /// The same for `Record`.
 fn check_record(alloc: Global, value: &Value) -> Out<(), JsonDeserializationError>
     ensures shape { IfOk result (λ _. Lacks not_record (view value.now)) }
-    ensures clean { IfOk result (λ _. excess_of shape.RecordType not_record (view value.now) ≡ None) }
-    ensures refused { IfRefused result (λ e. excess_of shape.RecordType not_record (view value.now) ≡ Some e) }
+    ensures clean { IfOk result (λ _. excess_of shape.RecordType not_record (view value.now)
+        ≡ None) }
+    ensures refused { IfRefused result (λ e. excess_of shape.RecordType not_record (view value.now)
+        ≡ Some e) }
 {
     refuse_key(alloc, value, "element", JsonShape::RecordType)?;
     refuse_key(alloc, value, "name", JsonShape::RecordType)?;
@@ -91,7 +95,8 @@ fn check_record(alloc: Global, value: &Value) -> Out<(), JsonDeserializationErro
 fn check_named(alloc: Global, value: &Value) -> Out<(), JsonDeserializationError>
     ensures shape { IfOk result (λ _. Lacks not_named (view value.now)) }
     ensures clean { IfOk result (λ _. excess_of shape.NamedType not_named (view value.now) ≡ None) }
-    ensures refused { IfRefused result (λ e. excess_of shape.NamedType not_named (view value.now) ≡ Some e) }
+    ensures refused { IfRefused result (λ e. excess_of shape.NamedType not_named (view value.now)
+        ≡ Some e) }
 {
     refuse_key(alloc, value, "element", JsonShape::NamedType)?;
     refuse_key(alloc, value, "attributes", JsonShape::NamedType)?;
@@ -102,8 +107,10 @@ fn check_named(alloc: Global, value: &Value) -> Out<(), JsonDeserializationError
 /// The reference at the key `name`, of a type with no other key of its own.
 fn name_at(alloc: Global, value: &Value, what: NameKind) -> Out<RawName, JsonDeserializationError>
     ensures shape { IfOk result (λ n. At (codes "name") IsName (view value.now) n) }
-    ensures clean { IfOk result (λ _. needs (codes "name") (in_text (reference_fault what)) (view value.now) ≡ None) }
-    ensures refused { IfRefused result (λ e. needs (codes "name") (in_text (reference_fault what)) (view value.now) ≡ Some e) }
+    ensures clean { IfOk result
+        (λ _. needs (codes "name") (in_text (reference_fault what)) (view value.now) ≡ None) }
+    ensures refused { IfRefused result
+        (λ e. needs (codes "name") (in_text (reference_fault what)) (view value.now) ≡ Some e) }
 {
     let Some(name) = value.get("name") else {
         return missing(alloc, "name");
@@ -114,8 +121,12 @@ fn name_at(alloc: Global, value: &Value, what: NameKind) -> Out<RawName, JsonDes
 /// The identifier of an extension type at the key `name`.
 fn extension_at(alloc: Global, value: &Value) -> Out<UnreservedId, JsonDeserializationError>
     ensures shape { IfOk result (λ id. At (codes "name") parts.IsId (view value.now) id) }
-    ensures clean { IfOk result (λ _. needs (codes "name") (in_text (parts.id_fault what.ExtensionType)) (view value.now) ≡ None) }
-    ensures refused { IfRefused result (λ e. needs (codes "name") (in_text (parts.id_fault what.ExtensionType)) (view value.now) ≡ Some e) }
+    ensures clean { IfOk result
+        (λ _. needs (codes "name") (in_text (parts.id_fault what.ExtensionType)) (view value.now)
+        ≡ None) }
+    ensures refused { IfRefused result
+        (λ e. needs (codes "name") (in_text (parts.id_fault what.ExtensionType)) (view value.now)
+        ≡ Some e) }
 {
     let Some(name) = value.get("name") else {
         return missing(alloc, "name");
@@ -137,8 +148,10 @@ fn read_word(alloc: Global, value: &Value, set: KeySet) -> Out<Text, JsonDeseria
 /// The text at the key `type`.
 fn text_at(alloc: Global, value: &Value) -> Out<Text, JsonDeserializationError>
     ensures shape { IfOk result (λ t. get (codes "type") (view value.now) ≡ Some (string t)) }
-    ensures clean { IfOk result (λ _. needs (codes "type") (in_text any_text) (view value.now) ≡ None) }
-    ensures refused { IfRefused result (λ e. needs (codes "type") (in_text any_text) (view value.now) ≡ Some e) }
+    ensures clean { IfOk result (λ _. needs (codes "type") (in_text any_text) (view value.now)
+        ≡ None) }
+    ensures refused { IfRefused result
+        (λ e. needs (codes "type") (in_text any_text) (view value.now) ≡ Some e) }
 {
     needed(alloc, value, "type")
 }
@@ -189,8 +202,10 @@ fn read_variant(
 ) -> Out<TypeVariant<RawName>, JsonDeserializationError>
     requires { word ≢ says.Other }
     ensures shape { IfOk result (λ v. VariantShape left word (view value.now) v) }
-    ensures clean { IfOk result (λ _. types.word_fault left (part_fault left) word (view value.now) ≡ None) }
-    ensures refused { IfRefused result (λ e. types.word_fault left (part_fault left) word (view value.now) ≡ Some e) }
+    ensures clean { IfOk result (λ _. types.word_fault left (part_fault left) word (view value.now)
+        ≡ None) }
+    ensures refused { IfRefused result
+        (λ e. types.word_fault left (part_fault left) word (view value.now) ≡ Some e) }
 {
     match word {
         TypeWord::Set => read_set(alloc, value, left),
@@ -235,8 +250,10 @@ fn read_set(
     left: usize,
 ) -> Out<TypeVariant<RawName>, JsonDeserializationError>
     ensures shape { IfOk result (λ v. VariantShape left says.Set (view value.now) v) }
-    ensures clean { IfOk result (λ _. types.word_fault left (part_fault left) says.Set (view value.now) ≡ None) }
-    ensures refused { IfRefused result (λ e. types.word_fault left (part_fault left) says.Set (view value.now) ≡ Some e) }
+    ensures clean { IfOk result
+        (λ _. types.word_fault left (part_fault left) says.Set (view value.now) ≡ None) }
+    ensures refused { IfRefused result
+        (λ e. types.word_fault left (part_fault left) says.Set (view value.now) ≡ Some e) }
 {
     if left == 0 {
         return refuse(alloc, JsonFault::TooDeep);
@@ -256,8 +273,10 @@ fn read_record(
     left: usize,
 ) -> Out<TypeVariant<RawName>, JsonDeserializationError>
     ensures shape { IfOk result (λ v. VariantShape left says.Record (view value.now) v) }
-    ensures clean { IfOk result (λ _. types.word_fault left (part_fault left) says.Record (view value.now) ≡ None) }
-    ensures refused { IfRefused result (λ e. types.word_fault left (part_fault left) says.Record (view value.now) ≡ Some e) }
+    ensures clean { IfOk result
+        (λ _. types.word_fault left (part_fault left) says.Record (view value.now) ≡ None) }
+    ensures refused { IfRefused result
+        (λ e. types.word_fault left (part_fault left) says.Record (view value.now) ≡ Some e) }
 {
     if left == 0 {
         return refuse(alloc, JsonFault::TooDeep);
@@ -296,9 +315,12 @@ fn read_element(
     left: usize,
 ) -> Out<SchemaType<RawName>, JsonDeserializationError>
     requires { 0 < left }
-    ensures shape { IfOk result (λ t. At (codes "element") (Part left set.Type) (view value.now) t) }
-    ensures clean { IfOk result (λ _. needs (codes "element") (part_fault left set.Type) (view value.now) ≡ None) }
-    ensures refused { IfRefused result (λ e. needs (codes "element") (part_fault left set.Type) (view value.now) ≡ Some e) }
+    ensures shape { IfOk result
+        (λ t. At (codes "element") (Part left set.Type) (view value.now) t) }
+    ensures clean { IfOk result
+        (λ _. needs (codes "element") (part_fault left set.Type) (view value.now) ≡ None) }
+    ensures refused { IfRefused result
+        (λ e. needs (codes "element") (part_fault left set.Type) (view value.now) ≡ Some e) }
 {
     let Some(element) = value.get("element") else {
         return missing(alloc, "element");
@@ -318,9 +340,15 @@ fn attributes_at(
     left: usize,
 ) -> Out<Map<Text, TypeOfAttribute<RawName>>, JsonDeserializationError>
     requires { 0 < left }
-    ensures shape { IfOk result (λ es. At (codes "attributes") (AttributesShape (Part left set.Attribute)) (view value.now) es) }
-    ensures clean { IfOk result (λ _. needs (codes "attributes") (attributes_fault (part_fault left set.Attribute)) (view value.now) ≡ None) }
-    ensures refused { IfRefused result (λ e. needs (codes "attributes") (attributes_fault (part_fault left set.Attribute)) (view value.now) ≡ Some e) }
+    ensures shape { IfOk result
+        (λ es. At (codes "attributes") (AttributesShape (Part left set.Attribute))
+        (view value.now) es) }
+    ensures clean { IfOk result
+        (λ _. needs (codes "attributes") (attributes_fault (part_fault left set.Attribute))
+        (view value.now) ≡ None) }
+    ensures refused { IfRefused result
+        (λ e. needs (codes "attributes") (attributes_fault (part_fault left set.Attribute))
+        (view value.now) ≡ Some e) }
 {
     let Some(attributes) = value.get("attributes") else {
         return missing(alloc, "attributes");
@@ -340,9 +368,12 @@ fn read_attributes(
     left: usize,
 ) -> Out<Map<Text, TypeOfAttribute<RawName>>, JsonDeserializationError>
     requires { 0 < left }
-    ensures shape { IfOk result (λ es. AttributesShape (Part left set.Attribute) (view value.now) es) }
-    ensures clean { IfOk result (λ _. attributes_fault (part_fault left set.Attribute) (view value.now) ≡ None) }
-    ensures refused { IfRefused result (λ e. attributes_fault (part_fault left set.Attribute) (view value.now) ≡ Some e) }
+    ensures shape { IfOk result
+        (λ es. AttributesShape (Part left set.Attribute) (view value.now) es) }
+    ensures clean { IfOk result
+        (λ _. attributes_fault (part_fault left set.Attribute) (view value.now) ≡ None) }
+    ensures refused { IfRefused result
+        (λ e. attributes_fault (part_fault left set.Attribute) (view value.now) ≡ Some e) }
 {
     let Some(members) = value.as_object() else {
         return wrong_type(alloc, value, JsonKind::Object);
@@ -359,9 +390,15 @@ fn read_members(
     left: usize,
 ) -> Out<Map<Text, TypeOfAttribute<RawName>>, JsonDeserializationError>
     requires { 0 < left }
-    ensures shape { IfOk result (λ es. MapMembers (slice_cmp nat_cmp) (Entry (λ k t. t ≡ k) (AttributeShape (Part left set.Attribute))) (members_view members.now.entries) es) }
-    ensures clean { IfOk result (λ _. members_fault (entry_fault any_text (attribute_fault (part_fault left set.Attribute))) (members_view members.now.entries) ≡ None) }
-    ensures refused { IfRefused result (λ e. members_fault (entry_fault any_text (attribute_fault (part_fault left set.Attribute))) (members_view members.now.entries) ≡ Some e) }
+    ensures shape { IfOk result
+        (λ es. MapMembers (slice_cmp nat_cmp) (Entry (λ k t. t
+        ≡ k) (AttributeShape (Part left set.Attribute))) (members_view members.now.entries) es) }
+    ensures clean { IfOk result
+        (λ _. members_fault (entry_fault any_text (attribute_fault (part_fault left set.Attribute)))
+        (members_view members.now.entries) ≡ None) }
+    ensures refused { IfRefused result
+        (λ e. members_fault (entry_fault any_text (attribute_fault (part_fault left set.Attribute)))
+        (members_view members.now.entries) ≡ Some e) }
 {
     let mut attributes = Map::new(alloc);
     for (key, member) in members.iter() {
@@ -389,8 +426,10 @@ fn read_attribute(
 ) -> Out<TypeOfAttribute<RawName>, JsonDeserializationError>
     requires { 0 < left }
     ensures shape { IfOk result (λ a. AttributeShape (Part left set.Attribute) (view value.now) a) }
-    ensures clean { IfOk result (λ _. attribute_fault (part_fault left set.Attribute) (view value.now) ≡ None) }
-    ensures refused { IfRefused result (λ e. attribute_fault (part_fault left set.Attribute) (view value.now) ≡ Some e) }
+    ensures clean { IfOk result
+        (λ _. attribute_fault (part_fault left set.Attribute) (view value.now) ≡ None) }
+    ensures refused { IfRefused result
+        (λ e. attribute_fault (part_fault left set.Attribute) (view value.now) ≡ Some e) }
 {
     let ty = read_part(alloc, value, KeySet::Attribute, left)?;
     let (ty, required, annotations) = noted(alloc, value, ty)?;
@@ -408,11 +447,15 @@ fn noted<T: Drop>(
     ty: T,
 ) -> Out<(T, bool, Annotations), JsonDeserializationError>
     ensures ty { IfOk result (λ made. made.0 ≡ ty) }
-    ensures required { IfOk result (λ made. MayHave (codes "required") (λ b. b ≡ true) IsFlag (view value.now) made.1) }
-    ensures annotations { IfOk result (λ made. MayHave (codes "annotations") NoAnnotations AreAnnotations (view value.now) made.2) }
+    ensures required { IfOk result (λ made. MayHave (codes "required") (λ b. b
+        ≡ true) IsFlag (view value.now) made.1) }
+    ensures annotations { IfOk result
+        (λ made. MayHave (codes "annotations") NoAnnotations AreAnnotations
+        (view value.now) made.2) }
     ensures clean { IfOk result (λ _. first (allows (codes "required") no_flag (view value.now))
         (allows (codes "annotations") annotations_fault (view value.now)) ≡ None) }
-    ensures refused { IfRefused result (λ e. first (allows (codes "required") no_flag (view value.now))
+    ensures refused { IfRefused result
+        (λ e. first (allows (codes "required") no_flag (view value.now))
         (allows (codes "annotations") annotations_fault (view value.now)) ≡ Some e) }
 {
     let required = flag_at(alloc, value, "required", true)?;

@@ -55,7 +55,8 @@ fn read_value(
 ) -> Out<CedarValueJson, JsonDeserializationError>
     ensures shape { IfOk result (λ v. ValueShape left (view value.now) v) }
     ensures clean { IfOk result (λ _. layer_fault left (value_fault left) (view value.now) ≡ None) }
-    ensures refused { IfRefused result (λ e. layer_fault left (value_fault left) (view value.now) ≡ Some e) }
+    ensures refused { IfRefused result (λ e. layer_fault left (value_fault left) (view value.now)
+        ≡ Some e) }
 {
     match value {
         Value::Null => Ok(CedarValueJson::Null),
@@ -110,9 +111,12 @@ fn read_items(
     left: usize,
 ) -> Out<ValueList, JsonDeserializationError>
     requires { 0 < left }
-    ensures shape { IfOk result (λ l. EachItem (ValuePart left) (items_view items.now.items) (values.list_values l)) }
-    ensures clean { IfOk result (λ _. items_fault (value_fault left) 0 (items_view items.now.items) ≡ None) }
-    ensures refused { IfRefused result (λ e. items_fault (value_fault left) 0 (items_view items.now.items) ≡ Some e) }
+    ensures shape { IfOk result
+        (λ l. EachItem (ValuePart left) (items_view items.now.items) (values.list_values l)) }
+    ensures clean { IfOk result (λ _. items_fault (value_fault left) 0 (items_view items.now.items)
+        ≡ None) }
+    ensures refused { IfRefused result
+        (λ e. items_fault (value_fault left) 0 (items_view items.now.items) ≡ Some e) }
 {
     let mut read = ValueList::new(alloc);
     let mut place = 0usize;
@@ -133,9 +137,15 @@ fn read_members(
     left: usize,
 ) -> Out<ValueMap, JsonDeserializationError>
     requires { 0 < left }
-    ensures shape { IfOk result (λ m. MapMembers (slice_cmp nat_cmp) (Entry (λ k t. t ≡ k) (ValuePart left)) (members_view members.now.entries) (values.members m)) }
-    ensures clean { IfOk result (λ _. members_fault (entry_fault any_text (value_fault left)) (members_view members.now.entries) ≡ None) }
-    ensures refused { IfRefused result (λ e. members_fault (entry_fault any_text (value_fault left)) (members_view members.now.entries) ≡ Some e) }
+    ensures shape { IfOk result
+        (λ m. MapMembers (slice_cmp nat_cmp) (Entry (λ k t. t ≡ k) (ValuePart left))
+        (members_view members.now.entries) (values.members m)) }
+    ensures clean { IfOk result
+        (λ _. members_fault (entry_fault any_text (value_fault left))
+        (members_view members.now.entries) ≡ None) }
+    ensures refused { IfRefused result
+        (λ e. members_fault (entry_fault any_text (value_fault left))
+        (members_view members.now.entries) ≡ Some e) }
 {
     let mut read = ValueMap::new(alloc);
     for (key, member) in members.iter() {
@@ -149,8 +159,10 @@ fn read_members(
 /// The attributes of an action that the value has the shape of.
 pub fn read_values(alloc: Global, value: &Value) -> Out<ValueMap, JsonDeserializationError>
     ensures shape { IfOk result (λ m. ValuesShape (ValuePart 129) (view value.now) m) }
-    ensures clean { IfOk result (λ _. map_fault (entry_fault any_text (value_fault 129)) (view value.now) ≡ None) }
-    ensures refused { IfRefused result (λ e. map_fault (entry_fault any_text (value_fault 129)) (view value.now) ≡ Some e) }
+    ensures clean { IfOk result
+        (λ _. map_fault (entry_fault any_text (value_fault 129)) (view value.now) ≡ None) }
+    ensures refused { IfRefused result
+        (λ e. map_fault (entry_fault any_text (value_fault 129)) (view value.now) ≡ Some e) }
 {
     let Some(members) = value.as_object() else {
         return wrong_type(alloc, value, JsonKind::Object);

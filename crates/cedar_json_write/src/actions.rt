@@ -49,7 +49,8 @@ fn put_parents(
     parents: &Option<Items<ActionEntityUID<RawName>>>,
 ) -> Mem<()>
     ensures { OnOk result (members_view members.new.entries
-        ≡ put_all (if_some (codes "memberOf") (all_of parent_json) parents.now) (members_view members.old.entries)) }
+        ≡ put_all (if_some (codes "memberOf") (all_of parent_json) parents.now)
+        (members_view members.old.entries)) }
 {
     match parents {
         Some(parents) => {

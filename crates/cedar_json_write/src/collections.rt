@@ -11,7 +11,8 @@ use std::alloc::Global;
 
 /// Puts what is written behind the values.
 pub(crate) fn push_item<T: ToJson>(alloc: Global, values: &mut Vec<Value>, item: &T) -> Mem<()>
-    ensures { OnOk result (map view values.new.items ≡ map view values.old.items ++ T.written item.now ∷ []) }
+    ensures { OnOk result (map view values.new.items ≡ map view values.old.items
+        ++ T.written item.now ∷ []) }
 {
     let value = item.to_json_value(alloc)?;
     values.push(value)?;
@@ -20,7 +21,8 @@ pub(crate) fn push_item<T: ToJson>(alloc: Global, values: &mut Vec<Value>, item:
 
 /// Puts what is written of each behind the values, in order.
 pub(crate) fn push_items<T: ToJson>(alloc: Global, values: &mut Vec<Value>, items: &[T]) -> Mem<()>
-    ensures { OnOk result (map view values.new.items ≡ map view values.old.items ++ map T.written items.now) }
+    ensures { OnOk result (map view values.new.items ≡ map view values.old.items
+        ++ map T.written items.now) }
 {
     for item in items {
         push_item(alloc, values, item)?;
@@ -45,7 +47,8 @@ pub(crate) fn put_items<T: ToJson>(
     items: &Items<T>,
 ) -> Mem<()>
     ensures { OnOk result (members_view members.new.entries
-        ≡ put_all (if_any key.now (all_of T.written) items.now) (members_view members.old.entries)) }
+        ≡ put_all (if_any key.now (all_of T.written) items.now)
+        (members_view members.old.entries)) }
 {
     if items.is_empty() {
         return Ok(());
@@ -76,7 +79,8 @@ pub(crate) fn put_map<K: Ord + ToKey, V: ToJson>(
     map: &Map<K, V>,
 ) -> Mem<()>
     ensures { OnOk result (members_view members.new.entries
-        ≡ put_all (if_any key.now (each_at K.text V.written) map.now) (members_view members.old.entries)) }
+        ≡ put_all (if_any key.now (each_at K.text V.written) map.now)
+        (members_view members.old.entries)) }
 {
     if map.is_empty() {
         return Ok(());

@@ -25,7 +25,8 @@ pub(crate) fn put_shape(
     key: &str,
     shape: &AttributesOrContext<RawName>,
 ) -> Mem<()>
-    ensures { OnOk result (members_view members.new.entries ≡ put_all (shape_at key.now shape.now) (members_view members.old.entries)) }
+    ensures { OnOk result (members_view members.new.entries
+        ≡ put_all (shape_at key.now shape.now) (members_view members.old.entries)) }
 {
     if shape.is_empty_record() {
         return Ok(());
@@ -52,7 +53,8 @@ fn put_standard(
     members: &mut Members,
     standard: &StandardEntityType<RawName>,
 ) -> Mem<()>
-    ensures { OnOk result (members_view members.new.entries ≡ put_all (standard_fields standard.now) (members_view members.old.entries)) }
+    ensures { OnOk result (members_view members.new.entries
+        ≡ put_all (standard_fields standard.now) (members_view members.old.entries)) }
 {
     put_items(alloc, members, "memberOfTypes", &standard.member_of_types)?;
     put_shape(alloc, members, "shape", &standard.shape)?;
@@ -71,7 +73,8 @@ fn write_choices(alloc: Global, choices: &NonEmpty<Text>) -> Mem<Value>
 
 /// Puts the members of an entity type of any kind.
 fn put_kind(alloc: Global, members: &mut Members, kind: &EntityTypeKind<RawName>) -> Mem<()>
-    ensures { OnOk result (members_view members.new.entries ≡ put_all (kind_fields kind.now) (members_view members.old.entries)) }
+    ensures { OnOk result (members_view members.new.entries
+        ≡ put_all (kind_fields kind.now) (members_view members.old.entries)) }
 {
     match kind {
         EntityTypeKind::Standard(standard) => put_standard(alloc, members, standard),

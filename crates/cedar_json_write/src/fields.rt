@@ -23,7 +23,8 @@ pub(crate) fn text_value(alloc: Global, text: &str) -> Mem<Value>
 /// Puts the value at the key.
 #[tactic(auto, using(crate::proofs::Building::inserts))]
 pub(crate) fn put_at(members: &mut Members, key: String, value: Value) -> Mem<()>
-    ensures { OnOk result (members_view members.new.entries ≡ put (string_bytes key) (view value) (members_view members.old.entries)) }
+    ensures { OnOk result (members_view members.new.entries
+        ≡ put (string_bytes key) (view value) (members_view members.old.entries)) }
 {
     members.insert(key, value)?;
     Ok(())
@@ -31,7 +32,8 @@ pub(crate) fn put_at(members: &mut Members, key: String, value: Value) -> Mem<()
 
 /// Puts the value at a copy of the key.
 pub(crate) fn put_value(alloc: Global, members: &mut Members, key: &str, value: Value) -> Mem<()>
-    ensures { OnOk result (members_view members.new.entries ≡ put key.now (view value) (members_view members.old.entries)) }
+    ensures { OnOk result (members_view members.new.entries
+        ≡ put key.now (view value) (members_view members.old.entries)) }
 {
     let key = String::from_str(alloc, key)?;
     put_at(members, key, value)
@@ -39,7 +41,8 @@ pub(crate) fn put_value(alloc: Global, members: &mut Members, key: &str, value: 
 
 /// Puts the text at the key.
 pub(crate) fn put_text(alloc: Global, members: &mut Members, key: &str, text: &str) -> Mem<()>
-    ensures { OnOk result (members_view members.new.entries ≡ put key.now (string text.now) (members_view members.old.entries)) }
+    ensures { OnOk result (members_view members.new.entries
+        ≡ put key.now (string text.now) (members_view members.old.entries)) }
 {
     let value = text_value(alloc, text)?;
     put_value(alloc, members, key, value)
@@ -52,7 +55,8 @@ pub(crate) fn put_json<T: ToJson>(
     key: &str,
     item: &T,
 ) -> Mem<()>
-    ensures { OnOk result (members_view members.new.entries ≡ put key.now (T.written item.now) (members_view members.old.entries)) }
+    ensures { OnOk result (members_view members.new.entries
+        ≡ put key.now (T.written item.now) (members_view members.old.entries)) }
 {
     let value = item.to_json_value(alloc)?;
     put_value(alloc, members, key, value)
@@ -65,7 +69,8 @@ pub(crate) fn put_some<T: ToJson>(
     key: &str,
     item: &Option<T>,
 ) -> Mem<()>
-    ensures { OnOk result (members_view members.new.entries ≡ put_all (if_some key.now T.written item.now) (members_view members.old.entries)) }
+    ensures { OnOk result (members_view members.new.entries
+        ≡ put_all (if_some key.now T.written item.now) (members_view members.old.entries)) }
 {
     match item {
         Some(item) => put_json(alloc, members, key, item),

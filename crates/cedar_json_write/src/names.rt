@@ -87,7 +87,8 @@ fn write_annotations(alloc: Global, annotations: &Annotations) -> Mem<Value>
 
 /// Puts the annotations at the key `annotations`, unless there is none.
 pub(crate) fn put_notes(alloc: Global, members: &mut Members, annotations: &Annotations) -> Mem<()>
-    ensures { OnOk result (members_view members.new.entries ≡ put_all (notes annotations.now) (members_view members.old.entries)) }
+    ensures { OnOk result (members_view members.new.entries
+        ≡ put_all (notes annotations.now) (members_view members.old.entries)) }
 {
     if annotations.is_empty() {
         return Ok(());

@@ -16,7 +16,8 @@ use std::alloc::Global;
 
 /// Puts the word of a type whose other key is a name.
 fn put_named(alloc: Global, members: &mut Members, word: &str, name: &RawName) -> Mem<()>
-    ensures { OnOk result (members_view members.new.entries ≡ put_all (named word.now name.now) (members_view members.old.entries)) }
+    ensures { OnOk result (members_view members.new.entries
+        ≡ put_all (named word.now name.now) (members_view members.old.entries)) }
 {
     put_text(alloc, members, "type", word)?;
     put_json(alloc, members, "name", name)
@@ -24,7 +25,8 @@ fn put_named(alloc: Global, members: &mut Members, word: &str, name: &RawName) -
 
 /// Puts the truth value at the key, unless it goes without saying.
 fn put_flag(alloc: Global, members: &mut Members, key: &str, flag: bool, unsaid: bool) -> Mem<()>
-    ensures { OnOk result (members_view members.new.entries ≡ put_all (unless unsaid key.now (boolean flag)) (members_view members.old.entries)) }
+    ensures { OnOk result (members_view members.new.entries
+        ≡ put_all (unless unsaid key.now (boolean flag)) (members_view members.old.entries)) }
 {
     if unsaid {
         return Ok(());
@@ -35,7 +37,8 @@ fn put_flag(alloc: Global, members: &mut Members, key: &str, flag: bool, unsaid:
 /// Puts the members of a type.
 #[cycle(write)]
 pub(crate) fn put_type(alloc: Global, ty: &SchemaType<RawName>, members: &mut Members) -> Mem<()>
-    ensures { OnOk result (members_view members.new.entries ≡ put_all (type_fields ty.now) (members_view members.old.entries)) }
+    ensures { OnOk result (members_view members.new.entries
+        ≡ put_all (type_fields ty.now) (members_view members.old.entries)) }
 {
     match ty {
         SchemaType::Variant { ty, loc: _ } => put_variant(alloc, ty, members),
@@ -48,7 +51,8 @@ pub(crate) fn put_type(alloc: Global, ty: &SchemaType<RawName>, members: &mut Me
 /// Puts the members of a type that is no common type.
 #[cycle(write)]
 fn put_variant(alloc: Global, ty: &TypeVariant<RawName>, members: &mut Members) -> Mem<()>
-    ensures { OnOk result (members_view members.new.entries ≡ put_all (variant_fields ty.now) (members_view members.old.entries)) }
+    ensures { OnOk result (members_view members.new.entries
+        ≡ put_all (variant_fields ty.now) (members_view members.old.entries)) }
 {
     match ty {
         TypeVariant::String => put_text(alloc, members, "type", "String"),
@@ -88,7 +92,8 @@ fn write_type(alloc: Global, ty: &SchemaType<RawName>) -> Mem<Value>
 #[cycle(write)]
 #[tactic(auto, using(crate::proofs::Parts::type_parts))]
 fn put_record(alloc: Global, fields: &RecordType<RawName>, members: &mut Members) -> Mem<()>
-    ensures { OnOk result (members_view members.new.entries ≡ put_all (record_fields fields.now) (members_view members.old.entries)) }
+    ensures { OnOk result (members_view members.new.entries
+        ≡ put_all (record_fields fields.now) (members_view members.old.entries)) }
 {
     let attributes = write_attributes(alloc, &fields.attributes)?;
     put_value(alloc, members, "attributes", attributes)?;
@@ -105,7 +110,8 @@ fn put_record(alloc: Global, fields: &RecordType<RawName>, members: &mut Members
 #[cycle(write)]
 #[tactic(auto, using(crate::proofs::Building::puts))]
 fn write_attributes(alloc: Global, attributes: &Map<Text, TypeOfAttribute<RawName>>) -> Mem<Value>
-    ensures { IfOk result (λ v. view v ≡ attributes_json (map_values attribute_fields attributes.now)) }
+    ensures { IfOk result (λ v. view v
+        ≡ attributes_json (map_values attribute_fields attributes.now)) }
 {
     let mut members = Members::new(alloc);
     for (name, attribute) in attributes.iter() {

@@ -42,7 +42,8 @@ impl Counts {
     /// Writes their line.
     #[tactic(auto, using(cedar_streams::proofs::InOrder::in_order))]
     fn write<K: Sink>(&self, out: &mut K) -> Result<(), SinkFailed>
-        ensures { Writes K.written K.faults out.old out.new (line_of self.now.entity_types self.now.actions self.now.warnings self.now.descendants self.now.environments) result }
+        ensures { Writes K.written K.faults out.old out.new
+            (line_of self.now.entity_types self.now.actions self.now.warnings self.now.descendants self.now.environments) result }
     {
         write_count(self.entity_types, " entity types, ", out)?;
         write_count(self.actions, " actions, ", out)?;

@@ -37,7 +37,8 @@ fn write_standard<K: Sink>(
     tags: Option<&Type>,
     out: &mut K,
 ) -> Result<(), SinkFailed>
-    ensures { Writes K.written K.faults out.old out.new (standard_text attributes.now (option_copied tags.entry)) result }
+    ensures { Writes K.written K.faults out.old out.new
+        (standard_text attributes.now (option_copied tags.entry)) result }
 {
     write_str(out, " attributes ")?;
     write_attributes(attributes, out)?;
@@ -47,7 +48,8 @@ fn write_standard<K: Sink>(
 /// Writes the type of tags, where there are any.
 #[tactic(auto, using(cedar_streams::proofs::InOrder::in_order))]
 fn write_tags<K: Sink>(tags: Option<&Type>, out: &mut K) -> Result<(), SinkFailed>
-    ensures { Writes K.written K.faults out.old out.new (tags_text (option_copied tags.entry)) result }
+    ensures { Writes K.written K.faults out.old out.new
+        (tags_text (option_copied tags.entry)) result }
 {
     match tags {
         None => write_str(out, ""),
@@ -71,7 +73,8 @@ fn write_enum<K: Sink>(ids: &NonEmpty<Text>, out: &mut K) -> Result<(), SinkFail
 
 /// Writes ids between quotes with commas between them.
 fn write_ids<K: Sink>(ids: &NonEmpty<Text>, out: &mut K) -> Result<(), SinkFailed>
-    ensures { Writes K.written K.faults out.old out.new (joined (codes ", ") (map quoted_text (elements ids.now))) result }
+    ensures { Writes K.written K.faults out.old out.new
+        (joined (codes ", ") (map quoted_text (elements ids.now))) result }
 {
     let mut separator: &[u8] = b"";
     for id in ids.iter() {

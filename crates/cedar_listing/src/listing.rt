@@ -37,7 +37,8 @@ pub fn write_listing<K: Sink>(
 
 /// Writes the lines of the entity types of a schema.
 fn write_entities<K: Sink>(schema: &ValidatorSchema, out: &mut K) -> Result<(), SinkFailed>
-    ensures { Writes K.written K.faults out.old out.new (flat_map entity_line (values_of (types schema.now))) result }
+    ensures { Writes K.written K.faults out.old out.new
+        (flat_map entity_line (values_of (types schema.now))) result }
 {
     for ty in schema.entity_types() {
         write_entity(ty, out)?;
@@ -47,7 +48,8 @@ fn write_entities<K: Sink>(schema: &ValidatorSchema, out: &mut K) -> Result<(), 
 
 /// Writes the lines of the actions of a schema.
 fn write_actions<K: Sink>(schema: &ValidatorSchema, out: &mut K) -> Result<(), SinkFailed>
-    ensures { Writes K.written K.faults out.old out.new (flat_map action_line (values_of (action_types schema.now))) result }
+    ensures { Writes K.written K.faults out.old out.new
+        (flat_map action_line (values_of (action_types schema.now))) result }
 {
     for action in schema.action_ids() {
         write_action(action, out)?;
@@ -77,7 +79,8 @@ fn write_entity_line<K: Sink>(
     kind: &ValidatorEntityTypeKind,
     out: &mut K,
 ) -> Result<(), SinkFailed>
-    ensures { Writes K.written K.faults out.old out.new (entity_line_of name.now descendants.entry attributes.now kind.now) result }
+    ensures { Writes K.written K.faults out.old out.new
+        (entity_line_of name.now descendants.entry attributes.now kind.now) result }
 {
     write_str(out, "entity ")?;
     write_entity_name(name, out)?;
@@ -111,7 +114,8 @@ fn write_action_line<K: Sink>(
     context: &Type,
     out: &mut K,
 ) -> Result<(), SinkFailed>
-    ensures { Writes K.written K.faults out.old out.new (action_line_of name.now descendants.entry principals.entry resources.entry context.now) result }
+    ensures { Writes K.written K.faults out.old out.new
+        (action_line_of name.now descendants.entry principals.entry resources.entry context.now) result }
 {
     write_str(out, "action ")?;
     write_uid(name, out)?;
@@ -128,7 +132,8 @@ fn write_applies<K: Sink>(
     context: &Type,
     out: &mut K,
 ) -> Result<(), SinkFailed>
-    ensures { Writes K.written K.faults out.old out.new (applies_text principals.entry resources.entry context.now) result }
+    ensures { Writes K.written K.faults out.old out.new
+        (applies_text principals.entry resources.entry context.now) result }
 {
     write_str(out, " principals ")?;
     write_list(principals, out)?;

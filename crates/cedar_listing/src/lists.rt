@@ -41,7 +41,8 @@ pub(crate) fn write_list<X: Listed, K: Sink>(
     items: SetIter<'_, X>,
     out: &mut K,
 ) -> Result<(), SinkFailed>
-    ensures { Writes K.written K.faults out.old out.new (list_text (map X.text_of items.entry)) result }
+    ensures { Writes K.written K.faults out.old out.new
+        (list_text (map X.text_of items.entry)) result }
 {
     write_str(out, "[")?;
     write_items(items, out)?;
@@ -50,7 +51,8 @@ pub(crate) fn write_list<X: Listed, K: Sink>(
 
 /// Writes items with commas between them.
 fn write_items<X: Listed, K: Sink>(items: SetIter<'_, X>, out: &mut K) -> Result<(), SinkFailed>
-    ensures { Writes K.written K.faults out.old out.new (joined (codes ", ") (map X.text_of items.entry)) result }
+    ensures { Writes K.written K.faults out.old out.new
+        (joined (codes ", ") (map X.text_of items.entry)) result }
 {
     let mut separator: &[u8] = b"";
     for item in items {

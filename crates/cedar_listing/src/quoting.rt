@@ -37,7 +37,9 @@ fn write_escaped_bytes<K: Sink>(bytes: &[u8], out: &mut K) -> Result<(), SinkFai
 
 /// Whether each byte stands for itself between quotes; it may answer no for such bytes too.
 fn are_plain(bytes: &[u8]) -> bool
-    ensures { IsTrue result → EachIndex bytes.now (λ k. escaped_byte (slice_index bytes.now k) ≡ slice_index bytes.now k ∷ []) }
+    ensures { IsTrue result
+        → EachIndex bytes.now (λ k. escaped_byte (slice_index bytes.now k) ≡ slice_index bytes.now k
+        ∷ []) }
 {
     bytes.iter().all(|byte| is_plain(*byte))
 }

@@ -56,7 +56,8 @@ pub(crate) fn write_attributes<K: Sink>(
 /// Writes attributes with commas between them.
 #[cycle(types)]
 fn write_rows<K: Sink>(attributes: &Attributes, out: &mut K) -> Result<(), SinkFailed>
-    ensures { Writes K.written K.faults out.old out.new (joined (codes ", ") (map row_text (entries attributes.now))) result }
+    ensures { Writes K.written K.faults out.old out.new
+        (joined (codes ", ") (map row_text (entries attributes.now))) result }
 {
     let mut separator: &[u8] = b"";
     for (name, attribute) in attributes.iter() {
@@ -71,7 +72,8 @@ fn write_rows<K: Sink>(attributes: &Attributes, out: &mut K) -> Result<(), SinkF
 #[cycle(types)]
 #[tactic(auto, using(cedar_streams::proofs::InOrder::in_order))]
 fn write_row<K: Sink>(name: &Text, attribute: &AttributeType, out: &mut K) -> Result<(), SinkFailed>
-    ensures { Writes K.written K.faults out.old out.new (row_text (name.now, attribute.now)) result }
+    ensures { Writes K.written K.faults out.old out.new
+        (row_text (name.now, attribute.now)) result }
 {
     write_attribute_name(name, out)?;
     write_mark(attribute.is_required, out)?;

@@ -12,7 +12,8 @@ pub(crate) fn write_warnings<K: Sink>(
     warnings: &[SchemaWarning],
     out: &mut K,
 ) -> Result<(), SinkFailed>
-    ensures { Writes K.written K.faults out.old out.new (flat_map warning_line warnings.now) result }
+    ensures { Writes K.written K.faults out.old out.new
+        (flat_map warning_line warnings.now) result }
 {
     for warning in warnings {
         write_warning(warning, out)?;

@@ -182,7 +182,9 @@ fn gather_missing(
     all_defs: &AllDefs,
     definitions: &[ValidatorNamespaceDef<ConditionalName, ConditionalName>],
 ) -> Mem<Missing>
-    ensures { IfOk result (λ m. m ≡ fold (with_missing (missing_in_definition (names_of all_defs.now))) no_missing definitions.now) }
+    ensures { IfOk result (λ m. m
+        ≡ fold (with_missing
+        (missing_in_definition (names_of all_defs.now))) no_missing definitions.now) }
 {
     let mut all = Missing::none(alloc);
     for definition in definitions {

@@ -57,7 +57,8 @@ fn undefined_in_variant<'a>(
     all_defs: &AllDefs,
     ty: &'a TypeVariant<ConditionalName>,
 ) -> Option<&'a ConditionalName>
-    ensures { option_copied result ≡ first_undefined (names_of all_defs.now) (references_of_variant ty.now) }
+    ensures { option_copied result
+        ≡ first_undefined (names_of all_defs.now) (references_of_variant ty.now) }
 {
     match ty {
         TypeVariant::String => None,
@@ -77,7 +78,8 @@ fn undefined_in_record<'a>(
     all_defs: &AllDefs,
     fields: &'a RecordType<ConditionalName>,
 ) -> Option<&'a ConditionalName>
-    ensures { option_copied result ≡ first_undefined (names_of all_defs.now) (references_of_record fields.now) }
+    ensures { option_copied result
+        ≡ first_undefined (names_of all_defs.now) (references_of_record fields.now) }
 {
     undefined_in_attributes(all_defs, &fields.attributes)
 }
@@ -89,7 +91,8 @@ fn undefined_in_attributes<'a>(
     all_defs: &AllDefs,
     attributes: &'a Map<Text, TypeOfAttribute<ConditionalName>>,
 ) -> Option<&'a ConditionalName>
-    ensures { option_copied result ≡ first_undefined (names_of all_defs.now) (references_of_attributes attributes.now) }
+    ensures { option_copied result
+        ≡ first_undefined (names_of all_defs.now) (references_of_attributes attributes.now) }
 {
     for (_, attribute) in attributes.iter() {
         if let Some(name) = undefined_in_attribute(all_defs, attribute) {
@@ -105,7 +108,8 @@ fn undefined_in_attribute<'a>(
     all_defs: &AllDefs,
     attribute: &'a TypeOfAttribute<ConditionalName>,
 ) -> Option<&'a ConditionalName>
-    ensures { option_copied result ≡ first_undefined (names_of all_defs.now) (references_of_attribute attribute.now) }
+    ensures { option_copied result
+        ≡ first_undefined (names_of all_defs.now) (references_of_attribute attribute.now) }
 {
     undefined_in_type(all_defs, &attribute.ty)
 }

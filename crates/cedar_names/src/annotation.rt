@@ -52,9 +52,12 @@ impl Annotations {
     /// Puts the annotation at the key, in place of one that was there. It fails only for want of memory, and then
     /// changes nothing.
     pub fn insert(&mut self, key: AnyId, a: Annotation) -> Mem<()>
-        ensures ok { OnOk result (annotation_entries self.new ≡ insert_entry any_cmp (annotation_entries self.old) key a) }
-        ensures puts { OnOk result ((name : List ℕ) → annotation_at (annotation_entries self.new) name
-            ≡ cond (bytes_eq name (any_word key)) (Some a) (annotation_at (annotation_entries self.old) name)) }
+        ensures ok { OnOk result (annotation_entries self.new
+            ≡ insert_entry any_cmp (annotation_entries self.old) key a) }
+        ensures puts { OnOk result ((name : List ℕ)
+            → annotation_at (annotation_entries self.new) name
+            ≡ cond (bytes_eq name (any_word key)) (Some a)
+            (annotation_at (annotation_entries self.old) name)) }
         ensures err { OnErr result (self.new ≡ self.old) }
     {
         self.map.put(key, a)

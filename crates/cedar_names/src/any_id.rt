@@ -22,7 +22,8 @@ impl AnyId {
 
     /// The word that the text is, if it is one.
     pub fn new(alloc: Global, s: &str) -> Mem<Option<AnyId>>
-        ensures { IfOk result (λ id. MatchOption id (is_word s.now ≡ false) (λ id. (any_word id ≡ s.now) × IsTrue (is_word s.now))) }
+        ensures { IfOk result (λ id. MatchOption id (is_word s.now
+            ≡ false) (λ id. (any_word id ≡ s.now) × IsTrue (is_word s.now))) }
     {
         if !is_word(s) {
             return Ok(None);
@@ -33,7 +34,8 @@ impl AnyId {
 
     /// The word that the text is; refused with what is wrong with its form.
     pub fn from_normalized_str(alloc: Global, s: &str) -> Out<AnyId, NameFault>
-        ensures ok { IfOk result (λ id. (word_fault no_any_id s.now ≡ None) × (any_word id ≡ s.now)) }
+        ensures ok { IfOk result (λ id. (word_fault no_any_id s.now ≡ None)
+            × (any_word id ≡ s.now)) }
         ensures refused { IfRefused result (λ fault. word_fault no_any_id s.now ≡ Some fault) }
     {
         check_form(alloc, s)?;

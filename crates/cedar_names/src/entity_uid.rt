@@ -74,8 +74,10 @@ impl EntityUID {
     /// as a string literal. It has no place. Refused with what is wrong with the text.
     pub fn from_normalized_str(alloc: Global, s: &str) -> Out<EntityUID, NameFault>
         ensures ok { IfOk result (λ uid. uid_fault s.now ≡ None) }
-        ensures written { IfOk result (λ uid. WritesUid s.now (entity_words (entity_type_of uid)) (eid_text (eid_of uid))) }
-        ensures place { IfOk result (λ uid. (place_of uid ≡ None) × (loc_of (internal_of (name_of (entity_type_of uid))) ≡ None)) }
+        ensures written { IfOk result
+            (λ uid. WritesUid s.now (entity_words (entity_type_of uid)) (eid_text (eid_of uid))) }
+        ensures place { IfOk result (λ uid. (place_of uid ≡ None)
+            × (loc_of (internal_of (name_of (entity_type_of uid))) ≡ None)) }
         ensures refused { IfRefused result (λ fault. uid_fault s.now ≡ Some fault) }
     {
         let (front, quoted) = s.split_at(quote_place(s));

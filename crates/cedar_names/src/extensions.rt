@@ -39,7 +39,8 @@ pub enum ExtensionsFault {
 
 /// The identifier of the extension type `name`; refused with what is wrong with the name by itself.
 fn extension_id(alloc: Global, index: usize, name: &str) -> Out<UnreservedId, ExtensionsFault>
-    ensures ok { IfOk result (λ id. (naming_fault index name.now ≡ None) × (unreserved_word id ≡ name.now)) }
+    ensures ok { IfOk result (λ id. (naming_fault index name.now ≡ None)
+        × (unreserved_word id ≡ name.now)) }
     ensures refused { IfRefused result (λ fault. naming_fault index name.now ≡ Some fault) }
 {
     let id = match UnreservedId::from_normalized_str(alloc, name) {
@@ -63,7 +64,8 @@ impl Extensions {
     /// The extension types of these names; refused with the first fault from the left.
     pub fn new(alloc: Global, names: &[Text]) -> Out<Extensions, ExtensionsFault>
         ensures ok { IfOk result (λ x. extensions_fault [] names.now ≡ None) }
-        ensures words { IfOk result (λ x. (w : List ℕ) → has_word (extension_words x) w ≡ has_word names.now w) }
+        ensures words { IfOk result (λ x. (w : List ℕ) → has_word (extension_words x) w
+            ≡ has_word names.now w) }
         ensures ascending { IfOk result (λ x. IsStrictlySortedBy word_cmp (extension_words x)) }
         ensures refused { IfRefused result (λ fault. extensions_fault [] names.now ≡ Some fault) }
     {
@@ -89,7 +91,8 @@ impl Extensions {
 
     /// All extension types that there are.
     pub fn all_available(alloc: Global) -> Mem<Extensions>
-        ensures { IfOk result (λ x. extension_words x ≡ codes "datetime" ∷ codes "decimal" ∷ codes "duration" ∷ codes "ipaddr" ∷ []) }
+        ensures { IfOk result (λ x. extension_words x ≡ codes "datetime" ∷ codes "decimal"
+            ∷ codes "duration" ∷ codes "ipaddr" ∷ []) }
     {
         let mut types = Set::new(alloc);
         types.insert(UnreservedId::known(alloc, "datetime")?)?;

@@ -23,7 +23,8 @@ impl Id {
 
     /// The identifier that the text is, if it is one.
     pub fn new(alloc: Global, s: &str) -> Mem<Option<Id>>
-        ensures { IfOk result (λ id. MatchOption id (is_id s.now ≡ false) (λ id. (id_word id ≡ s.now) × IsTrue (is_id s.now))) }
+        ensures { IfOk result (λ id. MatchOption id (is_id s.now
+            ≡ false) (λ id. (id_word id ≡ s.now) × IsTrue (is_id s.now))) }
     {
         if !is_word(s) || is_reserved_word(s) {
             return Ok(None);
@@ -112,8 +113,10 @@ impl UnreservedId {
 
     /// The identifier that the text is; refused with what is wrong with it, as where it is `__cedar`.
     pub fn from_normalized_str(alloc: Global, s: &str) -> Out<UnreservedId, NameFault>
-        ensures ok { IfOk result (λ id. (word_fault no_unreserved_id s.now ≡ None) × (unreserved_word id ≡ s.now)) }
-        ensures refused { IfRefused result (λ fault. word_fault no_unreserved_id s.now ≡ Some fault) }
+        ensures ok { IfOk result (λ id. (word_fault no_unreserved_id s.now ≡ None)
+            × (unreserved_word id ≡ s.now)) }
+        ensures refused { IfRefused result (λ fault. word_fault no_unreserved_id s.now
+            ≡ Some fault) }
     {
         let id = Id::from_normalized_str(alloc, s)?;
         if is_cedar(s) {

@@ -80,7 +80,8 @@ impl InternalName {
 
     /// The name of one component that the text is, with no place; refused with what is wrong with it.
     pub fn parse_unqualified_name(alloc: Global, s: &str) -> Out<InternalName, NameFault>
-        ensures ok { IfOk result (λ n. (word_fault no_id s.now ≡ None) × (components n ≡ s.now ∷ []) × (loc_of n ≡ None)) }
+        ensures ok { IfOk result (λ n. (word_fault no_id s.now ≡ None) × (components n ≡ s.now ∷ [])
+            × (loc_of n ≡ None)) }
         ensures refused { IfRefused result (λ fault. word_fault no_id s.now ≡ Some fault) }
     {
         let id = Id::from_normalized_str(alloc, s)?;
@@ -90,7 +91,8 @@ impl InternalName {
     /// The name that the text is: identifiers with `::` between them, and no blanks. It has no place. Refused with what
     /// is wrong with the text.
     pub fn from_normalized_str(alloc: Global, s: &str) -> Out<InternalName, NameFault>
-        ensures ok { IfOk result (λ n. (name_fault no_id s.now ≡ None) × (components n ≡ parts s.now) × (loc_of n ≡ None)) }
+        ensures ok { IfOk result (λ n. (name_fault no_id s.now ≡ None)
+            × (components n ≡ parts s.now) × (loc_of n ≡ None)) }
         ensures text { IfOk result (λ n. joined (components n) ≡ s.now) }
         ensures refused { IfRefused result (λ fault. name_fault no_id s.now ≡ Some fault) }
     {
@@ -304,7 +306,8 @@ impl ReservedNameError {
 
     /// The places of the kept pieces that have one: that of the name, if it has one.
     pub fn spans(&self, alloc: Global) -> Mem<Vec<Span>>
-        ensures { IfOk result (λ spans. spans.items ≡ option_to_list (option_map span_of (loc_of self.now.name))) }
+        ensures { IfOk result (λ spans. spans.items
+            ≡ option_to_list (option_map span_of (loc_of self.now.name))) }
     {
         let mut spans = Vec::new(alloc);
         if let Some(loc) = self.name.loc() {

@@ -45,9 +45,11 @@ impl Name {
     /// The name that the text is: identifiers other than `__cedar` with `::` between them, and no blanks. It has no
     /// place. Refused with what is wrong with the text.
     pub fn from_normalized_str(alloc: Global, s: &str) -> Out<Name, NameFault>
-        ensures ok { IfOk result (λ n. (name_fault no_unreserved_id s.now ≡ None) × (name_words n ≡ parts s.now) × (loc_of (internal_of n) ≡ None)) }
+        ensures ok { IfOk result (λ n. (name_fault no_unreserved_id s.now ≡ None)
+            × (name_words n ≡ parts s.now) × (loc_of (internal_of n) ≡ None)) }
         ensures text { IfOk result (λ n. joined (name_words n) ≡ s.now) }
-        ensures refused { IfRefused result (λ fault. name_fault no_unreserved_id s.now ≡ Some fault) }
+        ensures refused { IfRefused result (λ fault. name_fault no_unreserved_id s.now
+            ≡ Some fault) }
     {
         let ids = normalized_ids(alloc, s, false)?;
         let internal = name_of_ids(ids);
@@ -58,8 +60,10 @@ impl Name {
     pub fn of_words(alloc: Global, words: Vec<Text>) -> Out<Name, NameFault>
         requires words { list_all is_word words.items ≡ true }
         requires some { 0 < vec_len words }
-        ensures ok { IfOk result (λ n. (words_fault no_unreserved_id words.items ≡ None) × (name_words n ≡ words.items) × (loc_of (internal_of n) ≡ None)) }
-        ensures refused { IfRefused result (λ fault. words_fault no_unreserved_id words.items ≡ Some fault) }
+        ensures ok { IfOk result (λ n. (words_fault no_unreserved_id words.items ≡ None)
+            × (name_words n ≡ words.items) × (loc_of (internal_of n) ≡ None)) }
+        ensures refused { IfRefused result (λ fault. words_fault no_unreserved_id words.items
+            ≡ Some fault) }
     {
         let internal = unreserved_name(alloc, words)?;
         Ok(Name { internal })
@@ -101,7 +105,8 @@ impl InternalName {
 
     /// As `qualify_with`, within the namespace that a `Name` names.
     pub fn qualify_with_name(self, alloc: Global, ns: Option<&Name>) -> Mem<InternalName>
-        ensures value { IfOk result (λ n. n ≡ qualified self (option_map internal_of (option_copied ns.entry))) }
+        ensures value { IfOk result (λ n. n
+            ≡ qualified self (option_map internal_of (option_copied ns.entry))) }
         ensures kept { IfOk result (λ n. namespace_of self ≢ [] → n ≡ self) }
     {
         match ns {
@@ -123,9 +128,11 @@ impl EntityType {
 
     /// The entity type that the text names, as `Name::from_normalized_str`.
     pub fn from_normalized_str(alloc: Global, s: &str) -> Out<EntityType, NameFault>
-        ensures ok { IfOk result (λ t. (name_fault no_unreserved_id s.now ≡ None) × (entity_words t ≡ parts s.now) × (loc_of (internal_of (name_of t)) ≡ None)) }
+        ensures ok { IfOk result (λ t. (name_fault no_unreserved_id s.now ≡ None)
+            × (entity_words t ≡ parts s.now) × (loc_of (internal_of (name_of t)) ≡ None)) }
         ensures text { IfOk result (λ t. joined (entity_words t) ≡ s.now) }
-        ensures refused { IfRefused result (λ fault. name_fault no_unreserved_id s.now ≡ Some fault) }
+        ensures refused { IfRefused result (λ fault. name_fault no_unreserved_id s.now
+            ≡ Some fault) }
     {
         let name = Name::from_normalized_str(alloc, s)?;
         Ok(EntityType { name })
@@ -155,7 +162,8 @@ impl EntityType {
 
     /// Whether the basename is `Action`.
     pub fn is_action(&self) -> bool
-        ensures { result ≡ bytes_eq (id_word (basename_of (internal_of (name_of self.now)))) (codes "Action") }
+        ensures { result
+            ≡ bytes_eq (id_word (basename_of (internal_of (name_of self.now)))) (codes "Action") }
     {
         self.name.as_internal().basename().as_ref() == "Action"
     }

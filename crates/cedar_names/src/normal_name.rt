@@ -25,8 +25,10 @@ fn is_excluded(word: &str, cedar_allowed: bool) -> bool
 /// The identifiers of words; refused with the first that is excluded.
 fn ids_of(alloc: Global, words: Vec<Text>, cedar_allowed: bool) -> Out<Vec<Id>, NameFault>
     requires { list_all is_word words.items ≡ true }
-    ensures ok { IfOk result (λ ids. (words_fault (excluded_words cedar_allowed) words.items ≡ None) × (id_words ids.items ≡ words.items)) }
-    ensures refused { IfRefused result (λ fault. words_fault (excluded_words cedar_allowed) words.items ≡ Some fault) }
+    ensures ok { IfOk result (λ ids. (words_fault (excluded_words cedar_allowed) words.items ≡ None)
+        × (id_words ids.items ≡ words.items)) }
+    ensures refused { IfRefused result
+        (λ fault. words_fault (excluded_words cedar_allowed) words.items ≡ Some fault) }
 {
     let mut ids = Vec::new(alloc);
     for word in words {
@@ -40,11 +42,14 @@ fn ids_of(alloc: Global, words: Vec<Text>, cedar_allowed: bool) -> Out<Vec<Id>, 
 
 /// The identifiers of a normalized name; refused with what is wrong with it.
 pub fn normalized_ids(alloc: Global, s: &str, cedar_allowed: bool) -> Out<Vec<Id>, NameFault>
-    ensures ok { IfOk result (λ ids. (name_fault (excluded_words cedar_allowed) s.now ≡ None) × (id_words ids.items ≡ parts s.now)) }
+    ensures ok { IfOk result (λ ids. (name_fault (excluded_words cedar_allowed) s.now ≡ None)
+        × (id_words ids.items ≡ parts s.now)) }
     ensures some { IfOk result (λ ids. 0 < vec_len ids) }
     ensures text { IfOk result (λ ids. joined (id_words ids.items) ≡ s.now) }
-    ensures unreserved { IfOk result (λ ids. cedar_allowed ≡ false → has_cedar (id_words ids.items) ≡ false) }
-    ensures refused { IfRefused result (λ fault. name_fault (excluded_words cedar_allowed) s.now ≡ Some fault) }
+    ensures unreserved { IfOk result (λ ids. cedar_allowed ≡ false → has_cedar (id_words ids.items)
+        ≡ false) }
+    ensures refused { IfRefused result (λ fault. name_fault (excluded_words cedar_allowed) s.now
+        ≡ Some fault) }
 {
     let words = parts_of(alloc, s)?;
     let ids = ids_of(alloc, words, cedar_allowed)?;
@@ -67,9 +72,11 @@ pub fn name_of_ids(mut ids: Vec<Id>) -> InternalName
 pub fn unreserved_name(alloc: Global, words: Vec<Text>) -> Out<InternalName, NameFault>
     requires words { list_all is_word words.items ≡ true }
     requires some { 0 < vec_len words }
-    ensures ok { IfOk result (λ n. (words_fault no_unreserved_id words.items ≡ None) × (components n ≡ words.items) × (loc_of n ≡ None)) }
+    ensures ok { IfOk result (λ n. (words_fault no_unreserved_id words.items ≡ None)
+        × (components n ≡ words.items) × (loc_of n ≡ None)) }
     ensures unreserved { IfOk result (λ n. has_cedar (components n) ≡ false) }
-    ensures refused { IfRefused result (λ fault. words_fault no_unreserved_id words.items ≡ Some fault) }
+    ensures refused { IfRefused result (λ fault. words_fault no_unreserved_id words.items
+        ≡ Some fault) }
 {
     let ids = ids_of(alloc, words, false)?;
     Ok(name_of_ids(ids))

@@ -60,7 +60,8 @@ pub(crate) fn types_in(
 ) -> Out<Attributes, SchemaError>
     ensures types { IfOk result (λ types. types ≡ types_in attributes.now) }
     ensures ok { IfOk result (λ _. attribute_faults (uid_in uid.now) attributes.now ≡ []) }
-    ensures refused { IfRefused result (λ e. IsFirst (attribute_faults (uid_in uid.now) attributes.now) (told e)) }
+    ensures refused { IfRefused result
+        (λ e. IsFirst (attribute_faults (uid_in uid.now) attributes.now) (told e)) }
 {
     let Some(values) = attributes else {
         return Ok(Attributes::from_map(Map::new(alloc)));
@@ -106,7 +107,8 @@ pub(crate) fn check_attributes(
     actions: &Map<Text, ActionType<RawName>>,
 ) -> Out<(), SchemaError>
     ensures ok { IfOk result (λ _. prohibited action_behavior (with_attributes actions.now) ≡ []) }
-    ensures refused { IfRefused result (λ e. IsFirst (prohibited action_behavior (with_attributes actions.now)) (told e)) }
+    ensures refused { IfRefused result
+        (λ e. IsFirst (prohibited action_behavior (with_attributes actions.now)) (told e)) }
 {
     match action_behavior {
         ActionBehavior::PermitAttributes => Ok(()),

@@ -108,10 +108,14 @@ fn action_id(
     id: &Text,
     action: &ActionType<RawName>,
 ) -> Out<EntityUID, SchemaError>
-    ensures key { IfOk result (λ uid. action_key uid ≡ action_at (option_copied namespace.entry) id.now action.now.loc) }
-    ensures ok { IfOk result (λ _. reserved_in (option_copied namespace.entry) (components (action_type_in (option_copied namespace.entry))) ≡ []) }
+    ensures key { IfOk result (λ uid. action_key uid
+        ≡ action_at (option_copied namespace.entry) id.now action.now.loc) }
+    ensures ok { IfOk result
+        (λ _. reserved_in (option_copied namespace.entry)
+        (components (action_type_in (option_copied namespace.entry))) ≡ []) }
     ensures refused { IfRefused result (λ e. IsFirst
-        (reserved_in (option_copied namespace.entry) (components (action_type_in (option_copied namespace.entry)))) (told e)) }
+        (reserved_in (option_copied namespace.entry)
+        (components (action_type_in (option_copied namespace.entry)))) (told e)) }
 {
     let loc = action.loc.dup(alloc)?;
     let id = id.dup(alloc)?;
@@ -126,10 +130,14 @@ fn action_head(
     id: &Text,
     action: &ActionType<RawName>,
 ) -> Out<(EntityUID, Attributes), SchemaError>
-    ensures key { IfOk result (λ made. action_key made.0 ≡ action_at (option_copied namespace.entry) id.now action.now.loc) }
+    ensures key { IfOk result (λ made. action_key made.0
+        ≡ action_at (option_copied namespace.entry) id.now action.now.loc) }
     ensures types { IfOk result (λ made. made.1 ≡ types_in action.now.attributes) }
-    ensures ok { IfOk result (λ _. action_faults (option_copied namespace.entry) (id.now, action.now) ≡ []) }
-    ensures refused { IfRefused result (λ e. IsFirst (action_faults (option_copied namespace.entry) (id.now, action.now)) (told e)) }
+    ensures ok { IfOk result
+        (λ _. action_faults (option_copied namespace.entry) (id.now, action.now) ≡ []) }
+    ensures refused { IfRefused result
+        (λ e. IsFirst (action_faults (option_copied namespace.entry) (id.now, action.now))
+        (told e)) }
 {
     let uid = action_id(alloc, namespace, id, action)?;
     let types = types_in(alloc, &uid, &action.attributes)?;
@@ -145,7 +153,8 @@ fn fragment_of(
     action: &ActionType<RawName>,
 ) -> Mem<ActionFragment<ConditionalName, ConditionalName>>
     ensures { IfOk result (λ made. made ≡ action_made conditional_cmp attribute_types
-        (sure (through_action over_raw over_conditional (qualifying (option_copied namespace.entry)) action.now))) }
+        (sure (through_action over_raw over_conditional
+        (qualifying (option_copied namespace.entry)) action.now))) }
 {
     let copy = action.dup(alloc)?;
     let action = copy.conditionally_qualify_type_references(alloc, namespace)?;
@@ -161,8 +170,11 @@ fn put_action(
     attribute_types: Attributes,
     action: &ActionType<RawName>,
 ) -> Mem<()>
-    ensures { OnOk result (with_keys action_key made.new ≡ insert_entry action_key_cmp (with_keys action_key made.old) (action_key uid)
-        (action_made conditional_cmp attribute_types (sure (through_action over_raw over_conditional (qualifying (option_copied namespace.entry)) action.now)))) }
+    ensures { OnOk result (with_keys action_key made.new
+        ≡ insert_entry action_key_cmp (with_keys action_key made.old) (action_key uid)
+        (action_made conditional_cmp attribute_types
+        (sure (through_action over_raw over_conditional
+        (qualifying (option_copied namespace.entry)) action.now)))) }
 {
     let fragment = fragment_of(alloc, namespace, attribute_types, action)?;
     made.put(uid, fragment)?;
@@ -178,10 +190,15 @@ fn declare_action(
     id: &Text,
     action: &ActionType<RawName>,
 ) -> Out<(), SchemaError>
-    ensures puts { OnOk result (with_keys action_key made.new ≡ insert_entry action_key_cmp (with_keys action_key made.old)
-        (action_in (option_copied namespace.entry) (id.now, action.now)).0 (action_in (option_copied namespace.entry) (id.now, action.now)).1) }
-    ensures ok { OnOk result (action_faults (option_copied namespace.entry) (id.now, action.now) ≡ []) }
-    ensures refused { IfRefused result (λ e. IsFirst (action_faults (option_copied namespace.entry) (id.now, action.now)) (told e)) }
+    ensures puts { OnOk result (with_keys action_key made.new
+        ≡ insert_entry action_key_cmp (with_keys action_key made.old)
+        (action_in (option_copied namespace.entry) (id.now, action.now)).0
+        (action_in (option_copied namespace.entry) (id.now, action.now)).1) }
+    ensures ok { OnOk result (action_faults (option_copied namespace.entry) (id.now, action.now)
+        ≡ []) }
+    ensures refused { IfRefused result
+        (λ e. IsFirst (action_faults (option_copied namespace.entry) (id.now, action.now))
+        (told e)) }
 {
     let (uid, types) = action_head(alloc, namespace, id, action)?;
     put_action(alloc, namespace, made, uid, types, action)?;
@@ -195,9 +212,13 @@ pub(crate) fn actions_in(
     namespace: Option<&InternalName>,
     actions: &Map<Text, ActionType<RawName>>,
 ) -> Out<ActionsDef<ConditionalName, ConditionalName>, SchemaError>
-    ensures made { IfOk result (λ made. with_keys action_key made.actions ≡ map (action_in (option_copied namespace.entry)) actions.now) }
-    ensures ok { IfOk result (λ _. flat_map (action_faults (option_copied namespace.entry)) actions.now ≡ []) }
-    ensures refused { IfRefused result (λ e. IsFirst (flat_map (action_faults (option_copied namespace.entry)) actions.now) (told e)) }
+    ensures made { IfOk result (λ made. with_keys action_key made.actions
+        ≡ map (action_in (option_copied namespace.entry)) actions.now) }
+    ensures ok { IfOk result
+        (λ _. flat_map (action_faults (option_copied namespace.entry)) actions.now ≡ []) }
+    ensures refused { IfRefused result
+        (λ e. IsFirst (flat_map (action_faults (option_copied namespace.entry)) actions.now)
+        (told e)) }
 {
     let mut made = Map::new(alloc);
     for (id, action) in actions.iter() {

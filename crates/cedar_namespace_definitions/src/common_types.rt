@@ -17,7 +17,8 @@ fn common_type_in(
     id: CommonTypeId,
     common_type: CommonType<RawName>,
 ) -> Mem<(InternalName, SchemaType<ConditionalName>)>
-    ensures { IfOk result (λ made. made ≡ common_in (option_copied namespace.entry) (id, common_type)) }
+    ensures { IfOk result (λ made. made
+        ≡ common_in (option_copied namespace.entry) (id, common_type)) }
 {
     let CommonType {
         ty,
@@ -36,7 +37,8 @@ pub(crate) fn common_types_in(
     namespace: Option<&InternalName>,
     common_types: Map<CommonTypeId, CommonType<RawName>>,
 ) -> Mem<CommonTypeDefs<ConditionalName>>
-    ensures { IfOk result (λ made. made.defs ≡ map (common_in (option_copied namespace.entry)) common_types) }
+    ensures { IfOk result (λ made. made.defs
+        ≡ map (common_in (option_copied namespace.entry)) common_types) }
 {
     let mut defs = Map::new(alloc);
     for (id, common_type) in common_types.into_entries() {

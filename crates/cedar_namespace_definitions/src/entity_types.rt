@@ -58,7 +58,8 @@ fn entity_made(
     namespace: Option<&InternalName>,
     entity_type: &EntityType<RawName>,
 ) -> Mem<EntityTypeFragment<ConditionalName>>
-    ensures { IfOk result (λ made. made ≡ entity_made (option_copied namespace.entry) entity_type.now) }
+    ensures { IfOk result (λ made. made
+        ≡ entity_made (option_copied namespace.entry) entity_type.now) }
 {
     let copy = entity_type.dup(alloc)?;
     let EntityType {
@@ -77,9 +78,13 @@ fn entity_name(
     id: &UnreservedId,
     entity_type: &EntityType<RawName>,
 ) -> Out<cedar_names::EntityType, SchemaError>
-    ensures name { IfOk result (λ name. entity_key name ≡ entity_name (option_copied namespace.entry) (id.now, entity_type.now)) }
-    ensures ok { IfOk result (λ _. entity_faults (option_copied namespace.entry) (id.now, entity_type.now) ≡ []) }
-    ensures refused { IfRefused result (λ e. IsFirst (entity_faults (option_copied namespace.entry) (id.now, entity_type.now)) (told e)) }
+    ensures name { IfOk result (λ name. entity_key name
+        ≡ entity_name (option_copied namespace.entry) (id.now, entity_type.now)) }
+    ensures ok { IfOk result
+        (λ _. entity_faults (option_copied namespace.entry) (id.now, entity_type.now) ≡ []) }
+    ensures refused { IfRefused result
+        (λ e. IsFirst (entity_faults (option_copied namespace.entry) (id.now, entity_type.now))
+        (told e)) }
 {
     let loc = place_of(alloc, entity_type)?;
     let id = id.dup(alloc)?;
@@ -101,7 +106,8 @@ fn put_place(
     loc: Option<Loc>,
 ) -> Mem<()>
     ensures { OnOk result (with_keys entity_key locs.new
-        ≡ put_entries internal_cmp (with_keys entity_key locs.old) (entry_of (entity_key name.now) loc)) }
+        ≡ put_entries internal_cmp (with_keys entity_key locs.old)
+        (entry_of (entity_key name.now) loc)) }
 {
     if let Some(loc) = loc {
         let name = name.dup(alloc)?;
@@ -118,9 +124,11 @@ fn put_placed<V: Drop>(
     name: cedar_names::EntityType,
     placed: (V, Option<Loc>),
 ) -> Mem<()>
-    ensures defs { OnOk result (with_keys entity_key defs.new ≡ insert_entry internal_cmp (with_keys entity_key defs.old) (entity_key name) placed.0) }
+    ensures defs { OnOk result (with_keys entity_key defs.new
+        ≡ insert_entry internal_cmp (with_keys entity_key defs.old) (entity_key name) placed.0) }
     ensures locs { OnOk result (with_keys entity_key locs.new
-        ≡ put_entries internal_cmp (with_keys entity_key locs.old) (entry_of (entity_key name) placed.1)) }
+        ≡ put_entries internal_cmp (with_keys entity_key locs.old)
+        (entry_of (entity_key name) placed.1)) }
 {
     let (value, loc) = placed;
     put_place(alloc, locs, &name, loc)?;
@@ -134,7 +142,8 @@ fn placed(
     namespace: Option<&InternalName>,
     entity_type: &EntityType<RawName>,
 ) -> Mem<(EntityTypeFragment<ConditionalName>, Option<Loc>)>
-    ensures { IfOk result (λ made. made ≡ (entity_made (option_copied namespace.entry) entity_type.now, entity_type.now.loc)) }
+    ensures { IfOk result (λ made. made
+        ≡ (entity_made (option_copied namespace.entry) entity_type.now, entity_type.now.loc)) }
 {
     let loc = place_of(alloc, entity_type)?;
     let fragment = entity_made(alloc, namespace, entity_type)?;
@@ -150,12 +159,17 @@ fn declare_entity_type(
     id: &UnreservedId,
     entity_type: &EntityType<RawName>,
 ) -> Out<(), SchemaError>
-    ensures defs { OnOk result (with_keys entity_key defs.new ≡ put_entries internal_cmp (with_keys entity_key defs.old)
+    ensures defs { OnOk result (with_keys entity_key defs.new
+        ≡ put_entries internal_cmp (with_keys entity_key defs.old)
         (entity_in (option_copied namespace.entry) (id.now, entity_type.now) ∷ [])) }
-    ensures locs { OnOk result (with_keys entity_key locs.new ≡ put_entries internal_cmp (with_keys entity_key locs.old)
+    ensures locs { OnOk result (with_keys entity_key locs.new
+        ≡ put_entries internal_cmp (with_keys entity_key locs.old)
         (entity_place (option_copied namespace.entry) (id.now, entity_type.now))) }
-    ensures ok { OnOk result (entity_faults (option_copied namespace.entry) (id.now, entity_type.now) ≡ []) }
-    ensures refused { IfRefused result (λ e. IsFirst (entity_faults (option_copied namespace.entry) (id.now, entity_type.now)) (told e)) }
+    ensures ok { OnOk result
+        (entity_faults (option_copied namespace.entry) (id.now, entity_type.now) ≡ []) }
+    ensures refused { IfRefused result
+        (λ e. IsFirst (entity_faults (option_copied namespace.entry) (id.now, entity_type.now))
+        (told e)) }
 {
     let name = entity_name(alloc, namespace, id, entity_type)?;
     let placed = placed(alloc, namespace, entity_type)?;
@@ -170,9 +184,13 @@ pub(crate) fn entity_types_in(
     namespace: Option<&InternalName>,
     entity_types: &Map<UnreservedId, EntityType<RawName>>,
 ) -> Out<EntityTypesDef<ConditionalName>, SchemaError>
-    ensures made { IfOk result (λ made. AreEntityTypes (option_copied namespace.entry) entity_types.now made) }
-    ensures ok { IfOk result (λ _. flat_map (entity_faults (option_copied namespace.entry)) entity_types.now ≡ []) }
-    ensures refused { IfRefused result (λ e. IsFirst (flat_map (entity_faults (option_copied namespace.entry)) entity_types.now) (told e)) }
+    ensures made { IfOk result
+        (λ made. AreEntityTypes (option_copied namespace.entry) entity_types.now made) }
+    ensures ok { IfOk result
+        (λ _. flat_map (entity_faults (option_copied namespace.entry)) entity_types.now ≡ []) }
+    ensures refused { IfRefused result
+        (λ e. IsFirst (flat_map (entity_faults (option_copied namespace.entry)) entity_types.now)
+        (told e)) }
 {
     let mut defs = Map::new(alloc);
     let mut locs = Map::new(alloc);

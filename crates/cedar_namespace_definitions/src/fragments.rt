@@ -46,9 +46,15 @@ fn namespace_defined(
     namespace_def: &NamespaceDefinition<RawName>,
     action_behavior: ActionBehavior,
 ) -> Out<ValidatorNamespaceDef<ConditionalName, ConditionalName>, SchemaError>
-    ensures made { IfOk result (λ d. IsDefinitionOf (option_map internal_of name.now) namespace_def.now d) }
-    ensures ok { IfOk result (λ _. definition_faults action_behavior (option_map internal_of name.now) namespace_def.now ≡ []) }
-    ensures refused { IfRefused result (λ e. IsFirst (definition_faults action_behavior (option_map internal_of name.now) namespace_def.now) (told e)) }
+    ensures made { IfOk result
+        (λ d. IsDefinitionOf (option_map internal_of name.now) namespace_def.now d) }
+    ensures ok { IfOk result
+        (λ _. definition_faults action_behavior (option_map internal_of name.now) namespace_def.now
+        ≡ []) }
+    ensures refused { IfRefused result
+        (λ e. IsFirst
+        (definition_faults action_behavior (option_map internal_of name.now) namespace_def.now)
+        (told e)) }
 {
     defined(alloc, namespace_of(name), namespace_def, action_behavior)
 }
@@ -61,7 +67,8 @@ fn definitions_in(
 ) -> Out<Vec<ValidatorNamespaceDef<ConditionalName, ConditionalName>>, SchemaError>
     ensures made { IfOk result (λ made. AreDefinitionsOf fragment.now.0 made.items) }
     ensures ok { IfOk result (λ _. fragment_faults action_behavior fragment.now ≡ []) }
-    ensures refused { IfRefused result (λ e. IsFirst (fragment_faults action_behavior fragment.now) (told e)) }
+    ensures refused { IfRefused result
+        (λ e. IsFirst (fragment_faults action_behavior fragment.now) (told e)) }
 {
     let mut definitions = Vec::new(alloc);
     for (name, namespace_def) in fragment.0.iter() {
@@ -82,7 +89,8 @@ impl FromSchemaFragment for ValidatorSchemaFragment<ConditionalName, Conditional
     ) -> Out<ValidatorSchemaFragment<ConditionalName, ConditionalName>, SchemaError>
         ensures made { IfOk result (λ made. AreDefinitionsOf fragment.0 (definitions_of made)) }
         ensures ok { IfOk result (λ _. fragment_faults action_behavior fragment ≡ []) }
-        ensures refused { IfRefused result (λ e. IsFirst (fragment_faults action_behavior fragment) (told e)) }
+        ensures refused { IfRefused result
+            (λ e. IsFirst (fragment_faults action_behavior fragment) (told e)) }
     {
         let definitions = definitions_in(alloc, &fragment, action_behavior)?;
         Ok(ValidatorSchemaFragment::from_namespaces(definitions))

@@ -32,8 +32,10 @@ pub(crate) fn name_at(
 
 /// The entity type of this name; refused where a component of it is `__cedar`. It takes no memory.
 fn entity_type(name: InternalName) -> Out<EntityType, SchemaError>
-    ensures ok { IfOk result (λ ty. (entity_key ty ≡ name) × (has_cedar (components name) ≡ false)) }
-    ensures refused { IfRefused result (λ e. (told e ≡ ReservedName (components name)) × (has_cedar (components name) ≡ true)) }
+    ensures ok { IfOk result (λ ty. (entity_key ty ≡ name)
+        × (has_cedar (components name) ≡ false)) }
+    ensures refused { IfRefused result (λ e. (told e ≡ ReservedName (components name))
+        × (has_cedar (components name) ≡ true)) }
 {
     match Name::from_internal(name) {
         Ok(name) => Ok(EntityType::from_name(name)),
@@ -49,10 +51,14 @@ pub(crate) fn entity_type_at(
     id: UnreservedId,
     loc: Option<Loc>,
 ) -> Out<EntityType, SchemaError>
-    ensures key { IfOk result (λ ty. entity_key ty ≡ name_at (option_copied namespace.entry) id loc) }
-    ensures ok { IfOk result (λ _. reserved_in (option_copied namespace.entry) (components (name_at (option_copied namespace.entry) id loc)) ≡ []) }
+    ensures key { IfOk result (λ ty. entity_key ty
+        ≡ name_at (option_copied namespace.entry) id loc) }
+    ensures ok { IfOk result
+        (λ _. reserved_in (option_copied namespace.entry)
+        (components (name_at (option_copied namespace.entry) id loc)) ≡ []) }
     ensures refused { IfRefused result (λ e. IsFirst
-        (reserved_in (option_copied namespace.entry) (components (name_at (option_copied namespace.entry) id loc))) (told e)) }
+        (reserved_in (option_copied namespace.entry)
+        (components (name_at (option_copied namespace.entry) id loc))) (told e)) }
 {
     let name = name_at(alloc, namespace, id, loc)?;
     entity_type(name)
@@ -66,10 +72,14 @@ pub(crate) fn action_at(
     id: Text,
     loc: Option<Loc>,
 ) -> Out<EntityUID, SchemaError>
-    ensures key { IfOk result (λ uid. action_key uid ≡ action_at (option_copied namespace.entry) id loc) }
-    ensures ok { IfOk result (λ _. reserved_in (option_copied namespace.entry) (components (action_type_in (option_copied namespace.entry))) ≡ []) }
+    ensures key { IfOk result (λ uid. action_key uid
+        ≡ action_at (option_copied namespace.entry) id loc) }
+    ensures ok { IfOk result
+        (λ _. reserved_in (option_copied namespace.entry)
+        (components (action_type_in (option_copied namespace.entry))) ≡ []) }
     ensures refused { IfRefused result (λ e. IsFirst
-        (reserved_in (option_copied namespace.entry) (components (action_type_in (option_copied namespace.entry)))) (told e)) }
+        (reserved_in (option_copied namespace.entry)
+        (components (action_type_in (option_copied namespace.entry)))) (told e)) }
 {
     let name = type_or_action(alloc, None)?;
     let name = name.qualify_with(alloc, namespace)?;

@@ -55,7 +55,8 @@ fn check_declarations(
     action_behavior: ActionBehavior,
 ) -> Out<(), SchemaError>
     ensures ok { IfOk result (λ _. declaration_faults action_behavior namespace_def.now ≡ []) }
-    ensures refused { IfRefused result (λ e. IsFirst (declaration_faults action_behavior namespace_def.now) (told e)) }
+    ensures refused { IfRefused result
+        (λ e. IsFirst (declaration_faults action_behavior namespace_def.now) (told e)) }
 {
     check_entity_types(&namespace_def.entity_types)?;
     check_attributes(alloc, action_behavior, &namespace_def.actions)
@@ -67,7 +68,8 @@ fn common_types_of(
     namespace: Option<&InternalName>,
     namespace_def: &NamespaceDefinition<RawName>,
 ) -> Mem<CommonTypeDefs<ConditionalName>>
-    ensures { IfOk result (λ made. made.defs ≡ map (common_in (option_copied namespace.entry)) namespace_def.now.common_types) }
+    ensures { IfOk result (λ made. made.defs
+        ≡ map (common_in (option_copied namespace.entry)) namespace_def.now.common_types) }
 {
     let copy = namespace_def.common_types.dup(alloc)?;
     common_types_in(alloc, namespace, copy)
@@ -87,10 +89,15 @@ fn types_and_actions(
     ),
     SchemaError,
 >
-    ensures entity_types { IfOk result (λ made. AreEntityTypes (option_copied namespace.entry) namespace_def.now.entity_types made.0) }
-    ensures actions { IfOk result (λ made. with_keys action_key made.1.actions ≡ map (action_in (option_copied namespace.entry)) namespace_def.now.actions) }
-    ensures ok { IfOk result (λ _. each_fault (option_copied namespace.entry) namespace_def.now ≡ []) }
-    ensures refused { IfRefused result (λ e. IsFirst (each_fault (option_copied namespace.entry) namespace_def.now) (told e)) }
+    ensures entity_types { IfOk result
+        (λ made. AreEntityTypes
+        (option_copied namespace.entry) namespace_def.now.entity_types made.0) }
+    ensures actions { IfOk result (λ made. with_keys action_key made.1.actions
+        ≡ map (action_in (option_copied namespace.entry)) namespace_def.now.actions) }
+    ensures ok { IfOk result (λ _. each_fault (option_copied namespace.entry) namespace_def.now
+        ≡ []) }
+    ensures refused { IfRefused result
+        (λ e. IsFirst (each_fault (option_copied namespace.entry) namespace_def.now) (told e)) }
 {
     let actions = actions_in(alloc, namespace, &namespace_def.actions)?;
     let entity_types = entity_types_in(alloc, namespace, &namespace_def.entity_types)?;
@@ -117,9 +124,12 @@ fn each_defined(
     namespace: Option<&InternalName>,
     namespace_def: &NamespaceDefinition<RawName>,
 ) -> Out<ValidatorNamespaceDef<ConditionalName, ConditionalName>, SchemaError>
-    ensures made { IfOk result (λ d. IsDefinitionOf (option_copied namespace.entry) namespace_def.now d) }
-    ensures ok { IfOk result (λ _. each_fault (option_copied namespace.entry) namespace_def.now ≡ []) }
-    ensures refused { IfRefused result (λ e. IsFirst (each_fault (option_copied namespace.entry) namespace_def.now) (told e)) }
+    ensures made { IfOk result
+        (λ d. IsDefinitionOf (option_copied namespace.entry) namespace_def.now d) }
+    ensures ok { IfOk result (λ _. each_fault (option_copied namespace.entry) namespace_def.now
+        ≡ []) }
+    ensures refused { IfRefused result
+        (λ e. IsFirst (each_fault (option_copied namespace.entry) namespace_def.now) (told e)) }
 {
     let (entity_types, actions) = types_and_actions(alloc, namespace, namespace_def)?;
     let common_types = common_types_of(alloc, namespace, namespace_def)?;
@@ -140,9 +150,15 @@ pub(crate) fn defined(
     namespace_def: &NamespaceDefinition<RawName>,
     action_behavior: ActionBehavior,
 ) -> Out<ValidatorNamespaceDef<ConditionalName, ConditionalName>, SchemaError>
-    ensures made { IfOk result (λ d. IsDefinitionOf (option_copied namespace.entry) namespace_def.now d) }
-    ensures ok { IfOk result (λ _. definition_faults action_behavior (option_copied namespace.entry) namespace_def.now ≡ []) }
-    ensures refused { IfRefused result (λ e. IsFirst (definition_faults action_behavior (option_copied namespace.entry) namespace_def.now) (told e)) }
+    ensures made { IfOk result
+        (λ d. IsDefinitionOf (option_copied namespace.entry) namespace_def.now d) }
+    ensures ok { IfOk result
+        (λ _. definition_faults action_behavior (option_copied namespace.entry) namespace_def.now
+        ≡ []) }
+    ensures refused { IfRefused result
+        (λ e. IsFirst
+        (definition_faults action_behavior (option_copied namespace.entry) namespace_def.now)
+        (told e)) }
 {
     check_declarations(alloc, namespace_def, action_behavior)?;
     each_defined(alloc, namespace, namespace_def)
@@ -162,8 +178,10 @@ impl FromNamespaceDefinition for ValidatorNamespaceDef<ConditionalName, Conditio
         extensions: &Extensions,
     ) -> Out<ValidatorNamespaceDef<ConditionalName, ConditionalName>, SchemaError>
         ensures made { IfOk result (λ d. IsDefinitionOf namespace namespace_def d) }
-        ensures ok { IfOk result (λ _. definition_faults action_behavior namespace namespace_def ≡ []) }
-        ensures refused { IfRefused result (λ e. IsFirst (definition_faults action_behavior namespace namespace_def) (told e)) }
+        ensures ok { IfOk result (λ _. definition_faults action_behavior namespace namespace_def
+            ≡ []) }
+        ensures refused { IfRefused result
+            (λ e. IsFirst (definition_faults action_behavior namespace namespace_def) (told e)) }
     {
         defined(alloc, namespace.as_ref(), &namespace_def, action_behavior)
     }

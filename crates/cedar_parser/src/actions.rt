@@ -33,7 +33,8 @@ impl<'s> Parser<'s> {
         &self,
         tokens: &mut Tokens<'_, '_>,
     ) -> Out<Option<NonEmpty<Node<QualName>>>, Fault>
-        ensures read { Gives (λ refs. map (node_of qual_tree) (listed refs)) (tokens_of self.now.source.now tokens.new.rest.now) result
+        ensures read { Gives (λ refs. map (node_of qual_tree) (listed refs))
+            (tokens_of self.now.source.now tokens.new.rest.now) result
             (above_at (one_or_list_at ref_at) (tokens_of self.now.source.now tokens.old.rest.now)) }
         ensures shorter { OnOk result (length tokens.new.rest.now ≤ length tokens.old.rest.now) }
     {
@@ -52,7 +53,10 @@ impl<'s> Parser<'s> {
         types: Node<Option<NonEmpty<Path>>>,
     ) -> Mem<Node<AppDecl>>
         ensures { IfOk result (λ app. node_of app_tree app
-            ≡ placed (Types (stands (scope_tree kind) (lexeme_node self.now.source.now keyword.entry).loc) (map path_tree (listed types.node))) (lexeme_node self.now.source.now keyword.entry).loc types.loc) }
+            ≡ placed (Types
+            (stands (scope_tree kind) (lexeme_node self.now.source.now keyword.entry).loc)
+            (map path_tree (listed types.node)))
+            (lexeme_node self.now.source.now keyword.entry).loc types.loc) }
     {
         let which = self.place(keyword.start, keyword.end)?;
         let loc = self.place(keyword.start, types.loc.end)?;
@@ -77,8 +81,11 @@ impl<'s> Parser<'s> {
         keyword: Lexeme<'a>,
         kind: PR,
     ) -> Out<Node<AppDecl>, Fault>
-        ensures read { Gives (node_of app_tree) (tokens_of self.now.source.now tokens.new.rest.now) result
-            (scope_behind (stands (scope_tree kind) (lexeme_node self.now.source.now keyword.entry).loc) (tokens_of self.now.source.now tokens.old.rest.now)) }
+        ensures read { Gives (node_of app_tree)
+            (tokens_of self.now.source.now tokens.new.rest.now) result
+            (scope_behind
+            (stands (scope_tree kind) (lexeme_node self.now.source.now keyword.entry).loc)
+            (tokens_of self.now.source.now tokens.old.rest.now)) }
         ensures shorter { OnOk result (length tokens.new.rest.now < length tokens.old.rest.now) }
     {
         self.expect_mark(tokens, ":")?;
@@ -93,8 +100,10 @@ impl<'s> Parser<'s> {
         tokens: &mut Tokens<'_, 'a>,
         keyword: Lexeme<'a>,
     ) -> Out<Node<AppDecl>, Fault>
-        ensures read { (n : ℕ) → length tokens.old.rest.now < n → Gives (node_of app_tree) (tokens_of self.now.source.now tokens.new.rest.now) result
-            (context_behind (type_at n) (lexeme_node self.now.source.now keyword.entry) (tokens_of self.now.source.now tokens.old.rest.now)) }
+        ensures read { (n : ℕ) → length tokens.old.rest.now < n
+            → Gives (node_of app_tree) (tokens_of self.now.source.now tokens.new.rest.now) result
+            (context_behind (type_at n) (lexeme_node self.now.source.now keyword.entry)
+            (tokens_of self.now.source.now tokens.old.rest.now)) }
         ensures shorter { OnOk result (length tokens.new.rest.now < length tokens.old.rest.now) }
     {
         self.expect_mark(tokens, ":")?;
@@ -117,7 +126,8 @@ impl<'s> Parser<'s> {
     /// Takes one part of what an action applies to.
     #[tactic(auto, unfolding(cedar_grammar::specs::Reading::app_at))]
     fn app(&self, tokens: &mut Tokens<'_, '_>) -> Out<Node<AppDecl>, Fault>
-        ensures read { (n : ℕ) → length tokens.old.rest.now < n → Gives (node_of app_tree) (tokens_of self.now.source.now tokens.new.rest.now) result
+        ensures read { (n : ℕ) → length tokens.old.rest.now < n
+            → Gives (node_of app_tree) (tokens_of self.now.source.now tokens.new.rest.now) result
             (app_at (type_at n) (tokens_of self.now.source.now tokens.old.rest.now)) }
         ensures shorter { OnOk result (length tokens.new.rest.now < length tokens.old.rest.now) }
     {
@@ -137,7 +147,8 @@ impl<'s> Parser<'s> {
         tokens: &mut Tokens<'_, 'a>,
     ) -> Out<(Items<Node<AppDecl>>, Lexeme<'a>), Fault>
         ensures read { (n : ℕ) → length tokens.old.rest.now < n
-            → Gives (λ r. (map (node_of app_tree) r.0, lexeme_node self.now.source.now r.1)) (tokens_of self.now.source.now tokens.new.rest.now) result
+            → Gives (λ r. (map (node_of app_tree) r.0, lexeme_node self.now.source.now r.1))
+            (tokens_of self.now.source.now tokens.new.rest.now) result
             (braced_at (app_at (type_at n)) (tokens_of self.now.source.now tokens.old.rest.now)) }
         ensures some { IfOk result (λ r. 0 < length r.0) }
         ensures shorter { OnOk result (length tokens.new.rest.now < length tokens.old.rest.now) }
@@ -163,8 +174,11 @@ impl<'s> Parser<'s> {
         tokens: &mut Tokens<'_, 'a>,
         opening: Lexeme<'a>,
     ) -> Out<Node<NonEmpty<Node<AppDecl>>>, Fault>
-        ensures read { (n : ℕ) → length tokens.old.rest.now < n → Gives (node_of (λ apps. map (node_of app_tree) (elements apps))) (tokens_of self.now.source.now tokens.new.rest.now) result
-            (apps_behind (type_at n) (lexeme_node self.now.source.now opening.entry) (tokens_of self.now.source.now tokens.old.rest.now)) }
+        ensures read { (n : ℕ) → length tokens.old.rest.now < n
+            → Gives (node_of (λ apps. map (node_of app_tree) (elements apps)))
+            (tokens_of self.now.source.now tokens.new.rest.now) result
+            (apps_behind (type_at n) (lexeme_node self.now.source.now opening.entry)
+            (tokens_of self.now.source.now tokens.old.rest.now)) }
         ensures shorter { OnOk result (length tokens.new.rest.now < length tokens.old.rest.now) }
     {
         let (apps, closing) = self.app_list(tokens)?;
@@ -179,7 +193,9 @@ impl<'s> Parser<'s> {
         &self,
         tokens: &mut Tokens<'_, '_>,
     ) -> Out<Option<Node<NonEmpty<Node<AppDecl>>>>, Fault>
-        ensures read { (n : ℕ) → length tokens.old.rest.now < n → Gives (option_map (node_of (λ apps. map (node_of app_tree) (elements apps)))) (tokens_of self.now.source.now tokens.new.rest.now) result
+        ensures read { (n : ℕ) → length tokens.old.rest.now < n
+            → Gives (option_map (node_of (λ apps. map (node_of app_tree) (elements apps))))
+            (tokens_of self.now.source.now tokens.new.rest.now) result
             (applies_at (type_at n) (tokens_of self.now.source.now tokens.old.rest.now)) }
         ensures shorter { OnOk result (length tokens.new.rest.now ≤ length tokens.old.rest.now) }
     {
@@ -194,7 +210,8 @@ impl<'s> Parser<'s> {
     /// Takes the `{}` that follows `attributes`.
     #[tactic(auto, unfolding(crate::specs::Behind::braces_behind))]
     fn no_attributes<'a>(&self, tokens: &mut Tokens<'_, 'a>) -> Out<Lexeme<'a>, Fault>
-        ensures read { Gives (lexeme_node self.now.source.now) (tokens_of self.now.source.now tokens.new.rest.now) result
+        ensures read { Gives (lexeme_node self.now.source.now)
+            (tokens_of self.now.source.now tokens.new.rest.now) result
             (braces_behind (tokens_of self.now.source.now tokens.old.rest.now)) }
         ensures shorter { OnOk result (length tokens.new.rest.now < length tokens.old.rest.now) }
     {
@@ -220,7 +237,8 @@ impl<'s> Parser<'s> {
     #[tactic(auto, unfolding(crate::specs::Behind::action_end))]
     fn action_end<'a>(&self, tokens: &mut Tokens<'_, 'a>, action: Lexeme<'a>) -> Out<Loc, Fault>
         ensures read { Gives (λ loc. loc) (tokens_of self.now.source.now tokens.new.rest.now) result
-            (action_end (lexeme_node self.now.source.now action.entry) (tokens_of self.now.source.now tokens.old.rest.now)) }
+            (action_end (lexeme_node self.now.source.now action.entry)
+            (tokens_of self.now.source.now tokens.old.rest.now)) }
         ensures shorter { OnOk result (length tokens.new.rest.now < length tokens.old.rest.now) }
     {
         self.tail(tokens)?;
@@ -245,8 +263,18 @@ impl<'s> Parser<'s> {
         ),
         Fault,
     >
-        ensures read { (n : ℕ) → length tokens.old.rest.now < n → Gives (λ p. ((map (node_of qual_tree) (listed p.0.0), option_map (node_of (λ apps. map (node_of app_tree) (elements apps))) p.0.1), p.1)) (tokens_of self.now.source.now tokens.new.rest.now) result
-            (action_parts (type_at n) (lexeme_node self.now.source.now action.entry) (tokens_of self.now.source.now tokens.old.rest.now)) }
+        ensures read { (n : ℕ) → length tokens.old.rest.now < n
+            → Gives (λ p. (
+              (
+                map (node_of qual_tree) (listed p.0.0),
+                option_map
+                    (node_of (λ apps. map (node_of app_tree) (elements apps))) p.0.1,
+              ),
+              p.1,
+            ))
+            (tokens_of self.now.source.now tokens.new.rest.now) result
+            (action_parts (type_at n) (lexeme_node self.now.source.now action.entry)
+            (tokens_of self.now.source.now tokens.old.rest.now)) }
         ensures shorter { OnOk result (length tokens.new.rest.now < length tokens.old.rest.now) }
     {
         let parents = self.actions_above(tokens)?;
@@ -263,8 +291,11 @@ impl<'s> Parser<'s> {
         action: Lexeme<'a>,
         names: NonEmpty<Node<Text>>,
     ) -> Out<Node<Declaration>, Fault>
-        ensures read { (n : ℕ) → length tokens.old.rest.now < n → Gives (node_of decl_tree) (tokens_of self.now.source.now tokens.new.rest.now) result
-            (action_rest (type_at n) (lexeme_node self.now.source.now action.entry) (map (node_of (λ text. text)) (elements names)) (tokens_of self.now.source.now tokens.old.rest.now)) }
+        ensures read { (n : ℕ) → length tokens.old.rest.now < n
+            → Gives (node_of decl_tree) (tokens_of self.now.source.now tokens.new.rest.now) result
+            (action_rest (type_at n) (lexeme_node self.now.source.now action.entry)
+            (map (node_of (λ text. text)) (elements names))
+            (tokens_of self.now.source.now tokens.old.rest.now)) }
         ensures shorter { OnOk result (length tokens.new.rest.now < length tokens.old.rest.now) }
     {
         let (parts, loc) = self.action_parts(tokens, action)?;
@@ -287,8 +318,10 @@ impl<'s> Parser<'s> {
         tokens: &mut Tokens<'_, 'a>,
         action: Lexeme<'a>,
     ) -> Out<Node<Declaration>, Fault>
-        ensures read { (n : ℕ) → length tokens.old.rest.now < n → Gives (node_of decl_tree) (tokens_of self.now.source.now tokens.new.rest.now) result
-            (action_behind (type_at n) (lexeme_node self.now.source.now action.entry) (tokens_of self.now.source.now tokens.old.rest.now)) }
+        ensures read { (n : ℕ) → length tokens.old.rest.now < n
+            → Gives (node_of decl_tree) (tokens_of self.now.source.now tokens.new.rest.now) result
+            (action_behind (type_at n) (lexeme_node self.now.source.now action.entry)
+            (tokens_of self.now.source.now tokens.old.rest.now)) }
         ensures shorter { OnOk result (length tokens.new.rest.now < length tokens.old.rest.now) }
     {
         let names = self.commas::<Names>(tokens)?;

@@ -29,7 +29,8 @@ fn is_new(keys: &Set<AnyId>, key: &AnyId) -> bool
 impl<'s> Parser<'s> {
     /// Takes annotations, as many as there are, whose keys are all different.
     pub fn annotations(&self, tokens: &mut Tokens<'_, '_>) -> Out<Annotations, Fault>
-        ensures read { Gives annotations_tree (tokens_of self.now.source.now tokens.new.rest.now) result
+        ensures read { Gives annotations_tree
+            (tokens_of self.now.source.now tokens.new.rest.now) result
             (annots_at (tokens_of self.now.source.now tokens.old.rest.now)) }
         ensures shorter { OnOk result (length tokens.new.rest.now ≤ length tokens.old.rest.now) }
     {
@@ -70,7 +71,8 @@ impl<'s> Parser<'s> {
     ) -> Out<(AnyId, Annotation), Fault>
         ensures read { (before : Written) → HaveKeys keys.now before
             → Gives annotation_node (tokens_of self.now.source.now tokens.new.rest.now) result
-            (annotation_behind before (lexeme_node self.now.source.now at.entry) (tokens_of self.now.source.now tokens.old.rest.now)) }
+            (annotation_behind before (lexeme_node self.now.source.now at.entry)
+            (tokens_of self.now.source.now tokens.old.rest.now)) }
         ensures shorter { OnOk result (length tokens.new.rest.now < length tokens.old.rest.now) }
     {
         let key = self.key(tokens, keys)?;
@@ -86,7 +88,8 @@ impl<'s> Parser<'s> {
         value: Option<Node<Node<Text>>>,
     ) -> Mem<(AnyId, Annotation)>
         ensures { IfOk result (λ annotation. annotation_node annotation
-            ≡ annotation_of (lexeme_node self.now.source.now at.entry).loc (node_of any_word key) value) }
+            ≡ annotation_of (lexeme_node self.now.source.now at.entry).loc
+            (node_of any_word key) value) }
     {
         let Node { node: key, loc } = key;
         let Some(Node { node: literal, loc }) = value else {
@@ -104,7 +107,8 @@ impl<'s> Parser<'s> {
     fn key(&self, tokens: &mut Tokens<'_, '_>, keys: &Set<AnyId>) -> Out<Node<AnyId>, Fault>
         ensures read { (before : Written) → HaveKeys keys.now before
             → Gives (node_of any_word) (tokens_of self.now.source.now tokens.new.rest.now) result
-            (expect (text_where (is_new_key before)) (tokens_of self.now.source.now tokens.old.rest.now)) }
+            (expect (text_where (is_new_key before))
+            (tokens_of self.now.source.now tokens.old.rest.now)) }
         ensures shorter { OnOk result (length tokens.new.rest.now < length tokens.old.rest.now) }
     {
         let rest = tokens.rest;
@@ -125,7 +129,8 @@ impl<'s> Parser<'s> {
     /// Takes the value of an annotation with its brackets, if there is one.
     #[tactic(auto, unfolding(cedar_grammar::specs::Reading::value_at))]
     fn annotation_value(&self, tokens: &mut Tokens<'_, '_>) -> Out<Option<Node<Node<Text>>>, Fault>
-        ensures read { Gives (λ value. value) (tokens_of self.now.source.now tokens.new.rest.now) result
+        ensures read { Gives (λ value. value)
+            (tokens_of self.now.source.now tokens.new.rest.now) result
             (value_at (tokens_of self.now.source.now tokens.old.rest.now)) }
         ensures shorter { OnOk result (length tokens.new.rest.now ≤ length tokens.old.rest.now) }
     {

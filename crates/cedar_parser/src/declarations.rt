@@ -21,8 +21,10 @@ impl<'s> Parser<'s> {
         tokens: &mut Tokens<'_, 'a>,
         keyword: Lexeme<'a>,
     ) -> Out<Node<Declaration>, Fault>
-        ensures read { (n : ℕ) → length tokens.old.rest.now < n → Gives (node_of decl_tree) (tokens_of self.now.source.now tokens.new.rest.now) result
-            (type_behind (type_at n) (lexeme_node self.now.source.now keyword.entry) (tokens_of self.now.source.now tokens.old.rest.now)) }
+        ensures read { (n : ℕ) → length tokens.old.rest.now < n
+            → Gives (node_of decl_tree) (tokens_of self.now.source.now tokens.new.rest.now) result
+            (type_behind (type_at n) (lexeme_node self.now.source.now keyword.entry)
+            (tokens_of self.now.source.now tokens.old.rest.now)) }
         ensures shorter { OnOk result (length tokens.new.rest.now < length tokens.old.rest.now) }
     {
         let name = self.ident(tokens)?;
@@ -39,7 +41,8 @@ impl<'s> Parser<'s> {
     /// Takes a declaration.
     #[tactic(auto, unfolding(cedar_grammar::specs::Reading::decl_at))]
     fn declaration(&self, tokens: &mut Tokens<'_, '_>) -> Out<Node<Declaration>, Fault>
-        ensures read { (n : ℕ) → length tokens.old.rest.now < n → Gives (node_of decl_tree) (tokens_of self.now.source.now tokens.new.rest.now) result
+        ensures read { (n : ℕ) → length tokens.old.rest.now < n
+            → Gives (node_of decl_tree) (tokens_of self.now.source.now tokens.new.rest.now) result
             (decl_at (type_at n) (tokens_of self.now.source.now tokens.old.rest.now)) }
         ensures shorter { OnOk result (length tokens.new.rest.now < length tokens.old.rest.now) }
     {
@@ -59,8 +62,11 @@ impl<'s> Parser<'s> {
         &self,
         tokens: &mut Tokens<'_, '_>,
     ) -> Out<Annotated<Node<Declaration>>, Fault>
-        ensures read { (n : ℕ) → length tokens.old.rest.now < n → Gives (annotated_tree (node_of decl_tree)) (tokens_of self.now.source.now tokens.new.rest.now) result
-            (annotated_at (decl_at (type_at n)) (tokens_of self.now.source.now tokens.old.rest.now)) }
+        ensures read { (n : ℕ) → length tokens.old.rest.now < n
+            → Gives (annotated_tree (node_of decl_tree))
+            (tokens_of self.now.source.now tokens.new.rest.now) result
+            (annotated_at (decl_at (type_at n))
+            (tokens_of self.now.source.now tokens.old.rest.now)) }
         ensures shorter { OnOk result (length tokens.new.rest.now < length tokens.old.rest.now) }
     {
         let annotations = self.annotations(tokens)?;
@@ -95,8 +101,10 @@ impl<'s> Parser<'s> {
         keyword: Lexeme<'a>,
         name: Path,
     ) -> Out<Namespace, Fault>
-        ensures read { (n : ℕ) → length tokens.old.rest.now < n → Gives namespace_tree (tokens_of self.now.source.now tokens.new.rest.now) result
-            (decls_behind (type_at n) (lexeme_node self.now.source.now keyword.entry) (path_tree name) (tokens_of self.now.source.now tokens.old.rest.now)) }
+        ensures read { (n : ℕ) → length tokens.old.rest.now < n
+            → Gives namespace_tree (tokens_of self.now.source.now tokens.new.rest.now) result
+            (decls_behind (type_at n) (lexeme_node self.now.source.now keyword.entry)
+            (path_tree name) (tokens_of self.now.source.now tokens.old.rest.now)) }
         ensures shorter { OnOk result (length tokens.new.rest.now < length tokens.old.rest.now) }
     {
         let mut decls = Items::new(self.alloc);
@@ -116,8 +124,10 @@ impl<'s> Parser<'s> {
         tokens: &mut Tokens<'_, 'a>,
         keyword: Lexeme<'a>,
     ) -> Out<Namespace, Fault>
-        ensures read { (n : ℕ) → length tokens.old.rest.now < n → Gives namespace_tree (tokens_of self.now.source.now tokens.new.rest.now) result
-            (namespace_behind (type_at n) (lexeme_node self.now.source.now keyword.entry) (tokens_of self.now.source.now tokens.old.rest.now)) }
+        ensures read { (n : ℕ) → length tokens.old.rest.now < n
+            → Gives namespace_tree (tokens_of self.now.source.now tokens.new.rest.now) result
+            (namespace_behind (type_at n) (lexeme_node self.now.source.now keyword.entry)
+            (tokens_of self.now.source.now tokens.old.rest.now)) }
         ensures shorter { OnOk result (length tokens.new.rest.now < length tokens.old.rest.now) }
     {
         let name = self.path(tokens)?;
@@ -127,7 +137,8 @@ impl<'s> Parser<'s> {
 
     /// The declaration in a namespace of its own, without name and annotations.
     fn alone(&self, item: Node<Declaration>, annotations: Annotations) -> Mem<Annotated<Namespace>>
-        ensures { IfOk result (λ namespace. annotated_tree namespace_tree namespace ≡ alone (annotations_tree annotations) (node_of decl_tree item)) }
+        ensures { IfOk result (λ namespace. annotated_tree namespace_tree namespace
+            ≡ alone (annotations_tree annotations) (node_of decl_tree item)) }
     {
         let mut decls = Items::new(self.alloc);
         decls.push(Annotated { item, annotations })?;
@@ -148,8 +159,11 @@ impl<'s> Parser<'s> {
         tokens: &mut Tokens<'_, '_>,
         annotations: Annotations,
     ) -> Out<Annotated<Namespace>, Fault>
-        ensures read { (n : ℕ) → length tokens.old.rest.now < n → Gives (annotated_tree namespace_tree) (tokens_of self.now.source.now tokens.new.rest.now) result
-            (item_at (type_at n) (annotations_tree annotations) (tokens_of self.now.source.now tokens.old.rest.now)) }
+        ensures read { (n : ℕ) → length tokens.old.rest.now < n
+            → Gives (annotated_tree namespace_tree)
+            (tokens_of self.now.source.now tokens.new.rest.now) result
+            (item_at (type_at n) (annotations_tree annotations)
+            (tokens_of self.now.source.now tokens.old.rest.now)) }
         ensures shorter { OnOk result (length tokens.new.rest.now < length tokens.old.rest.now) }
     {
         if let Some(keyword) = self.accept_keyword(tokens, "namespace") {
@@ -163,7 +177,9 @@ impl<'s> Parser<'s> {
     /// Takes a namespace or a declaration with its annotations.
     #[tactic(auto, unfolding(crate::specs::Behind::annotated_item))]
     fn annotated_item(&self, tokens: &mut Tokens<'_, '_>) -> Out<Annotated<Namespace>, Fault>
-        ensures read { (n : ℕ) → length tokens.old.rest.now < n → Gives (annotated_tree namespace_tree) (tokens_of self.now.source.now tokens.new.rest.now) result
+        ensures read { (n : ℕ) → length tokens.old.rest.now < n
+            → Gives (annotated_tree namespace_tree)
+            (tokens_of self.now.source.now tokens.new.rest.now) result
             (annotated_item (type_at n) (tokens_of self.now.source.now tokens.old.rest.now)) }
         ensures shorter { OnOk result (length tokens.new.rest.now < length tokens.old.rest.now) }
     {
@@ -173,7 +189,8 @@ impl<'s> Parser<'s> {
 
     /// Takes namespaces and declarations up to the end of the tokens.
     pub fn schema(&self, tokens: &mut Tokens<'_, '_>) -> Out<Schema, Fault>
-        ensures { Gives schema_tree [] result (schema_at (tokens_of self.now.source.now tokens.old.rest.now)) }
+        ensures { Gives schema_tree [] result
+            (schema_at (tokens_of self.now.source.now tokens.old.rest.now)) }
     {
         let mut items = Items::new(self.alloc);
         'items: while !tokens.rest.is_empty() {

@@ -23,7 +23,8 @@ impl<'s> Parser<'s> {
     /// Takes the entity types after `in`, if it stands next.
     #[tactic(auto, unfolding(cedar_grammar::specs::Reading::above_at, cedar_grammar::specs::Reading::types_at))]
     fn types_above(&self, tokens: &mut Tokens<'_, '_>) -> Out<Items<Path>, Fault>
-        ensures read { Gives (map path_tree) (tokens_of self.now.source.now tokens.new.rest.now) result
+        ensures read { Gives (map path_tree)
+            (tokens_of self.now.source.now tokens.new.rest.now) result
             (above_at types_at (tokens_of self.now.source.now tokens.old.rest.now)) }
         ensures shorter { OnOk result (length tokens.new.rest.now ≤ length tokens.old.rest.now) }
     {
@@ -37,7 +38,8 @@ impl<'s> Parser<'s> {
     /// Takes a record or a name.
     #[tactic(auto, unfolding(cedar_grammar::specs::Reading::record_or_path))]
     fn record_or_path(&self, tokens: &mut Tokens<'_, '_>) -> Out<ContextDecl, Fault>
-        ensures read { (n : ℕ) → length tokens.old.rest.now < n → Gives context_tree (tokens_of self.now.source.now tokens.new.rest.now) result
+        ensures read { (n : ℕ) → length tokens.old.rest.now < n
+            → Gives context_tree (tokens_of self.now.source.now tokens.new.rest.now) result
             (record_or_path (type_at n) (tokens_of self.now.source.now tokens.old.rest.now)) }
         ensures shorter { OnOk result (length tokens.new.rest.now < length tokens.old.rest.now) }
     {
@@ -52,7 +54,9 @@ impl<'s> Parser<'s> {
     /// Takes the shape of entity types, a record with or without `=` before it or a name behind `=`, if it stands next.
     #[tactic(auto, unfolding(cedar_grammar::specs::Reading::shape_reader))]
     fn shape(&self, tokens: &mut Tokens<'_, '_>) -> Out<Option<ContextDecl>, Fault>
-        ensures read { (n : ℕ) → length tokens.old.rest.now < n → Gives (option_map context_tree) (tokens_of self.now.source.now tokens.new.rest.now) result
+        ensures read { (n : ℕ) → length tokens.old.rest.now < n
+            → Gives (option_map context_tree)
+            (tokens_of self.now.source.now tokens.new.rest.now) result
             (shape_reader (type_at n) (tokens_of self.now.source.now tokens.old.rest.now)) }
         ensures shorter { OnOk result (length tokens.new.rest.now ≤ length tokens.old.rest.now) }
     {
@@ -70,7 +74,9 @@ impl<'s> Parser<'s> {
     /// Takes `tags` and a type, if it stands next: the place of the word, and the type.
     #[tactic(auto, unfolding(cedar_grammar::specs::Reading::tags_at))]
     fn tags(&self, tokens: &mut Tokens<'_, '_>) -> Out<Option<(Loc, Node<Type>)>, Fault>
-        ensures read { (n : ℕ) → length tokens.old.rest.now < n → Gives (option_map (λ p. (p.0, node_of type_tree p.1))) (tokens_of self.now.source.now tokens.new.rest.now) result
+        ensures read { (n : ℕ) → length tokens.old.rest.now < n
+            → Gives (option_map (λ p. (p.0, node_of type_tree p.1)))
+            (tokens_of self.now.source.now tokens.new.rest.now) result
             (tags_at (type_at n) (tokens_of self.now.source.now tokens.old.rest.now)) }
         ensures shorter { OnOk result (length tokens.new.rest.now ≤ length tokens.old.rest.now) }
     {
@@ -90,7 +96,9 @@ impl<'s> Parser<'s> {
         behind: Lexeme<'_>,
     ) -> Mem<(ContextDecl, Option<Node<Type>>)>
         ensures shape { IfOk result (λ p. context_tree p.0
-            ≡ shape_at (option_map context_tree shape) (behind_shape (option_map (λ p. (p.0, node_of type_tree p.1)) tags) (lexeme_node self.now.source.now behind.entry).loc)) }
+            ≡ shape_at (option_map context_tree shape)
+            (behind_shape (option_map (λ p. (p.0, node_of type_tree p.1)) tags)
+            (lexeme_node self.now.source.now behind.entry).loc)) }
         ensures tags { IfOk result (λ p. p.1 ≡ option_map (λ t. t.1) tags) }
     {
         match tags {
@@ -108,7 +116,8 @@ impl<'s> Parser<'s> {
 
     /// The shape that was read; where none was, an empty record at the empty place before what stands there.
     fn shape_before(&self, shape: Option<ContextDecl>, behind: &Loc) -> Mem<ContextDecl>
-        ensures { IfOk result (λ attrs. context_tree attrs ≡ shape_at (option_map context_tree shape) behind.now) }
+        ensures { IfOk result (λ attrs. context_tree attrs
+            ≡ shape_at (option_map context_tree shape) behind.now) }
     {
         if let Some(shape) = shape {
             return Ok(shape);
@@ -130,9 +139,13 @@ impl<'s> Parser<'s> {
         semicolon: Lexeme<'_>,
     ) -> Mem<((ContextDecl, Option<Node<Type>>), Loc)>
         ensures shape { IfOk result (λ p. context_tree p.0.0
-            ≡ shape_at (option_map context_tree shape) (behind_shape (option_map (λ p. (p.0, node_of type_tree p.1)) tags) (lexeme_node self.now.source.now semicolon.entry).loc)) }
+            ≡ shape_at (option_map context_tree shape)
+            (behind_shape (option_map (λ p. (p.0, node_of type_tree p.1)) tags)
+            (lexeme_node self.now.source.now semicolon.entry).loc)) }
         ensures tags { IfOk result (λ p. p.0.1 ≡ option_map (λ t. t.1) tags) }
-        ensures place { IfOk result (λ p. p.1 ≡ between (lexeme_node self.now.source.now entity.entry).loc (lexeme_node self.now.source.now semicolon.entry).loc) }
+        ensures place { IfOk result (λ p. p.1
+            ≡ between (lexeme_node self.now.source.now entity.entry).loc
+            (lexeme_node self.now.source.now semicolon.entry).loc) }
     {
         let loc = self.place(entity.start, semicolon.end)?;
         let parts = self.shape_and_tags(shape, tags, semicolon)?;
@@ -147,8 +160,11 @@ impl<'s> Parser<'s> {
         tokens: &mut Tokens<'_, 'a>,
         entity: Lexeme<'a>,
     ) -> Out<((ContextDecl, Option<Node<Type>>), Loc), Fault>
-        ensures read { (n : ℕ) → length tokens.old.rest.now < n → Gives (λ p. ((context_tree p.0.0, option_map (node_of type_tree) p.0.1), p.1)) (tokens_of self.now.source.now tokens.new.rest.now) result
-            (standard_parts (type_at n) (lexeme_node self.now.source.now entity.entry) (tokens_of self.now.source.now tokens.old.rest.now)) }
+        ensures read { (n : ℕ) → length tokens.old.rest.now < n
+            → Gives (λ p. ((context_tree p.0.0, option_map (node_of type_tree) p.0.1), p.1))
+            (tokens_of self.now.source.now tokens.new.rest.now) result
+            (standard_parts (type_at n) (lexeme_node self.now.source.now entity.entry)
+            (tokens_of self.now.source.now tokens.old.rest.now)) }
         ensures shorter { OnOk result (length tokens.new.rest.now < length tokens.old.rest.now) }
     {
         let shape = self.shape(tokens)?;
@@ -166,8 +182,11 @@ impl<'s> Parser<'s> {
         names: NonEmpty<Node<Id>>,
         member_of_types: Items<Path>,
     ) -> Out<Node<Declaration>, Fault>
-        ensures read { (n : ℕ) → length tokens.old.rest.now < n → Gives (node_of decl_tree) (tokens_of self.now.source.now tokens.new.rest.now) result
-            (standard_rest (type_at n) (lexeme_node self.now.source.now entity.entry) (map (node_of id_word) (elements names)) (map path_tree member_of_types) (tokens_of self.now.source.now tokens.old.rest.now)) }
+        ensures read { (n : ℕ) → length tokens.old.rest.now < n
+            → Gives (node_of decl_tree) (tokens_of self.now.source.now tokens.new.rest.now) result
+            (standard_rest (type_at n) (lexeme_node self.now.source.now entity.entry)
+            (map (node_of id_word) (elements names)) (map path_tree member_of_types)
+            (tokens_of self.now.source.now tokens.old.rest.now)) }
         ensures shorter { OnOk result (length tokens.new.rest.now < length tokens.old.rest.now) }
     {
         let (parts, loc) = self.standard_parts(tokens, entity)?;
@@ -192,8 +211,11 @@ impl<'s> Parser<'s> {
         entity: Lexeme<'a>,
         names: NonEmpty<Node<Id>>,
     ) -> Out<Node<Declaration>, Fault>
-        ensures read { (n : ℕ) → length tokens.old.rest.now < n → Gives (node_of decl_tree) (tokens_of self.now.source.now tokens.new.rest.now) result
-            (standard_behind (type_at n) (lexeme_node self.now.source.now entity.entry) (map (node_of id_word) (elements names)) (tokens_of self.now.source.now tokens.old.rest.now)) }
+        ensures read { (n : ℕ) → length tokens.old.rest.now < n
+            → Gives (node_of decl_tree) (tokens_of self.now.source.now tokens.new.rest.now) result
+            (standard_behind (type_at n) (lexeme_node self.now.source.now entity.entry)
+            (map (node_of id_word) (elements names))
+            (tokens_of self.now.source.now tokens.old.rest.now)) }
         ensures shorter { OnOk result (length tokens.new.rest.now < length tokens.old.rest.now) }
     {
         let member_of_types = self.types_above(tokens)?;
@@ -204,7 +226,8 @@ impl<'s> Parser<'s> {
     #[tactic(auto, unfolding(crate::specs::Behind::enum_end))]
     fn enum_end<'a>(&self, tokens: &mut Tokens<'_, 'a>, entity: Lexeme<'a>) -> Out<Loc, Fault>
         ensures read { Gives (λ loc. loc) (tokens_of self.now.source.now tokens.new.rest.now) result
-            (enum_end (lexeme_node self.now.source.now entity.entry) (tokens_of self.now.source.now tokens.old.rest.now)) }
+            (enum_end (lexeme_node self.now.source.now entity.entry)
+            (tokens_of self.now.source.now tokens.old.rest.now)) }
         ensures shorter { OnOk result (length tokens.new.rest.now < length tokens.old.rest.now) }
     {
         self.expect_mark(tokens, "]")?;
@@ -219,8 +242,10 @@ impl<'s> Parser<'s> {
         tokens: &mut Tokens<'_, 'a>,
         entity: Lexeme<'a>,
     ) -> Out<(NonEmpty<Node<Text>>, Loc), Fault>
-        ensures read { Gives (λ p. (map (node_of (λ text. text)) (elements p.0), p.1)) (tokens_of self.now.source.now tokens.new.rest.now) result
-            (enum_parts (lexeme_node self.now.source.now entity.entry) (tokens_of self.now.source.now tokens.old.rest.now)) }
+        ensures read { Gives (λ p. (map (node_of (λ text. text)) (elements p.0), p.1))
+            (tokens_of self.now.source.now tokens.new.rest.now) result
+            (enum_parts (lexeme_node self.now.source.now entity.entry)
+            (tokens_of self.now.source.now tokens.old.rest.now)) }
         ensures shorter { OnOk result (length tokens.new.rest.now < length tokens.old.rest.now) }
     {
         self.expect_mark(tokens, "[")?;
@@ -236,8 +261,11 @@ impl<'s> Parser<'s> {
         entity: Lexeme<'a>,
         names: NonEmpty<Node<Id>>,
     ) -> Out<Node<Declaration>, Fault>
-        ensures read { Gives (node_of decl_tree) (tokens_of self.now.source.now tokens.new.rest.now) result
-            (enum_behind (lexeme_node self.now.source.now entity.entry) (map (node_of id_word) (elements names)) (tokens_of self.now.source.now tokens.old.rest.now)) }
+        ensures read { Gives (node_of decl_tree)
+            (tokens_of self.now.source.now tokens.new.rest.now) result
+            (enum_behind (lexeme_node self.now.source.now entity.entry)
+            (map (node_of id_word) (elements names))
+            (tokens_of self.now.source.now tokens.old.rest.now)) }
         ensures shorter { OnOk result (length tokens.new.rest.now < length tokens.old.rest.now) }
     {
         let (choices, loc) = self.enum_parts(tokens, entity)?;
@@ -255,8 +283,10 @@ impl<'s> Parser<'s> {
         tokens: &mut Tokens<'_, 'a>,
         entity: Lexeme<'a>,
     ) -> Out<Node<Declaration>, Fault>
-        ensures read { (n : ℕ) → length tokens.old.rest.now < n → Gives (node_of decl_tree) (tokens_of self.now.source.now tokens.new.rest.now) result
-            (entity_behind (type_at n) (lexeme_node self.now.source.now entity.entry) (tokens_of self.now.source.now tokens.old.rest.now)) }
+        ensures read { (n : ℕ) → length tokens.old.rest.now < n
+            → Gives (node_of decl_tree) (tokens_of self.now.source.now tokens.new.rest.now) result
+            (entity_behind (type_at n) (lexeme_node self.now.source.now entity.entry)
+            (tokens_of self.now.source.now tokens.old.rest.now)) }
         ensures shorter { OnOk result (length tokens.new.rest.now < length tokens.old.rest.now) }
     {
         let names = self.commas::<Idents>(tokens)?;

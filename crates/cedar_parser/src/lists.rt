@@ -161,7 +161,8 @@ impl Member for References {
 impl<'s> Parser<'s> {
     /// Takes members with commas between.
     pub fn commas<M: Member>(&self, tokens: &mut Tokens<'_, '_>) -> Out<NonEmpty<M::Item>, Fault>
-        ensures read { Gives (λ members. map M.tree (elements members)) (tokens_of self.now.source.now tokens.new.rest.now) result
+        ensures read { Gives (λ members. map M.tree (elements members))
+            (tokens_of self.now.source.now tokens.new.rest.now) result
             (commas_at M.reader (tokens_of self.now.source.now tokens.old.rest.now)) }
         ensures shorter { OnOk result (length tokens.new.rest.now < length tokens.old.rest.now) }
     {
@@ -193,8 +194,10 @@ impl<'s> Parser<'s> {
         tokens: &mut Tokens<'_, 'a>,
         opening: Lexeme<'a>,
     ) -> Out<Located<Option<NonEmpty<M::Item>>>, Fault>
-        ensures read { Gives (node_of (λ members. map M.tree (listed members))) (tokens_of self.now.source.now tokens.new.rest.now) result
-            (brackets_behind M.reader (lexeme_node self.now.source.now opening.entry) (tokens_of self.now.source.now tokens.old.rest.now)) }
+        ensures read { Gives (node_of (λ members. map M.tree (listed members)))
+            (tokens_of self.now.source.now tokens.new.rest.now) result
+            (brackets_behind M.reader (lexeme_node self.now.source.now opening.entry)
+            (tokens_of self.now.source.now tokens.old.rest.now)) }
         ensures shorter { OnOk result (length tokens.new.rest.now < length tokens.old.rest.now) }
     {
         if let Some(closing) = self.accept_mark(tokens, "]") {
@@ -216,7 +219,8 @@ impl<'s> Parser<'s> {
         &self,
         tokens: &mut Tokens<'_, '_>,
     ) -> Out<Located<Option<NonEmpty<M::Item>>>, Fault>
-        ensures read { Gives (node_of (λ members. map M.tree (listed members))) (tokens_of self.now.source.now tokens.new.rest.now) result
+        ensures read { Gives (node_of (λ members. map M.tree (listed members)))
+            (tokens_of self.now.source.now tokens.new.rest.now) result
             (one_or_list_at M.reader (tokens_of self.now.source.now tokens.old.rest.now)) }
         ensures shorter { OnOk result (length tokens.new.rest.now < length tokens.old.rest.now) }
     {

@@ -38,7 +38,8 @@ impl Ids {
 
     /// Puts another identifier behind.
     fn extend(&mut self, id: Node<Id>) -> Mem<()>
-        ensures { OnOk result (ids_path self.new ≡ longer (ids_path self.old) (node_of id_word id)) }
+        ensures { OnOk result (ids_path self.new
+            ≡ longer (ids_path self.old) (node_of id_word id)) }
     {
         let Node { node, loc } = id;
         let before = mem::replace(&mut self.basename, node);
@@ -64,7 +65,8 @@ impl<'s> Parser<'s> {
     /// Takes the rest of a path that begins with this identifier.
     pub fn path_behind(&self, tokens: &mut Tokens<'_, '_>, first: Node<Id>) -> Out<Path, Fault>
         ensures read { Gives path_tree (tokens_of self.now.source.now tokens.new.rest.now) result
-            (path_behind (node_of id_word first) (tokens_of self.now.source.now tokens.old.rest.now)) }
+            (path_behind (node_of id_word first)
+            (tokens_of self.now.source.now tokens.old.rest.now)) }
         ensures shorter { OnOk result (length tokens.new.rest.now ≤ length tokens.old.rest.now) }
     {
         let mut ids = Ids::of(self.alloc, first);
@@ -93,8 +95,10 @@ impl<'s> Parser<'s> {
         tokens: &mut Tokens<'_, '_>,
         first: Node<Id>,
     ) -> Out<Node<QualName>, Fault>
-        ensures read { Gives (node_of qual_tree) (tokens_of self.now.source.now tokens.new.rest.now) result
-            (ref_behind (node_of id_word first) (tokens_of self.now.source.now tokens.old.rest.now)) }
+        ensures read { Gives (node_of qual_tree)
+            (tokens_of self.now.source.now tokens.new.rest.now) result
+            (ref_behind (node_of id_word first)
+            (tokens_of self.now.source.now tokens.old.rest.now)) }
         ensures shorter { OnOk result (length tokens.new.rest.now ≤ length tokens.old.rest.now) }
     {
         if let None = self.accept_mark(tokens, "::") {
@@ -123,8 +127,10 @@ impl<'s> Parser<'s> {
 
     /// Takes the rest of a reference that begins with this identifier and a `::`.
     fn qualified(&self, tokens: &mut Tokens<'_, '_>, first: Node<Id>) -> Out<Node<QualName>, Fault>
-        ensures read { Gives (node_of qual_tree) (tokens_of self.now.source.now tokens.new.rest.now) result
-            (qualified_at (node_of id_word first) (tokens_of self.now.source.now tokens.old.rest.now)) }
+        ensures read { Gives (node_of qual_tree)
+            (tokens_of self.now.source.now tokens.new.rest.now) result
+            (qualified_at (node_of id_word first)
+            (tokens_of self.now.source.now tokens.old.rest.now)) }
         ensures shorter { OnOk result (length tokens.new.rest.now < length tokens.old.rest.now) }
     {
         let mut ids = Ids::of(self.alloc, first);
@@ -141,7 +147,8 @@ impl<'s> Parser<'s> {
     /// Takes a reference to an action.
     #[tactic(auto, unfolding(cedar_grammar::specs::Reading::ref_at))]
     pub fn reference(&self, tokens: &mut Tokens<'_, '_>) -> Out<Node<QualName>, Fault>
-        ensures read { Gives (node_of qual_tree) (tokens_of self.now.source.now tokens.new.rest.now) result
+        ensures read { Gives (node_of qual_tree)
+            (tokens_of self.now.source.now tokens.new.rest.now) result
             (ref_at (tokens_of self.now.source.now tokens.old.rest.now)) }
         ensures shorter { OnOk result (length tokens.new.rest.now < length tokens.old.rest.now) }
     {

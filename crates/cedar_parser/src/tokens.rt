@@ -49,10 +49,12 @@ impl<'s> Parser<'s> {
     /// Takes the next token if it is this word.
     #[tactic(auto, unfolding(cedar_grammar::specs::Reading::accepted))]
     pub fn accept_keyword<'a>(&self, tokens: &mut Tokens<'_, 'a>, word: &str) -> Option<Lexeme<'a>>
-        ensures read { option_map (λ l. (lexeme_node self.now.source.now l, tokens_of self.now.source.now tokens.new.rest.now)) result
+        ensures read { option_map
+            (λ l. (lexeme_node self.now.source.now l, tokens_of self.now.source.now tokens.new.rest.now)) result
             ≡ accepted (a_keyword word.now) (tokens_of self.now.source.now tokens.old.rest.now) }
         ensures word { IfSome result (λ l. l.text.now ≡ word.now) }
-        ensures shorter { IfSome result (λ _. length tokens.new.rest.now < length tokens.old.rest.now) }
+        ensures shorter { IfSome result
+            (λ _. length tokens.new.rest.now < length tokens.old.rest.now) }
         ensures kept { IfNone result (tokens.new.rest.now ≡ tokens.old.rest.now) }
     {
         let rest = tokens.rest;
@@ -66,9 +68,11 @@ impl<'s> Parser<'s> {
     /// Takes the next token if it is this mark.
     #[tactic(auto, unfolding(cedar_grammar::specs::Reading::accepted))]
     pub fn accept_mark<'a>(&self, tokens: &mut Tokens<'_, 'a>, mark: &str) -> Option<Lexeme<'a>>
-        ensures read { option_map (λ l. (lexeme_node self.now.source.now l, tokens_of self.now.source.now tokens.new.rest.now)) result
+        ensures read { option_map
+            (λ l. (lexeme_node self.now.source.now l, tokens_of self.now.source.now tokens.new.rest.now)) result
             ≡ accepted (a_mark mark.now) (tokens_of self.now.source.now tokens.old.rest.now) }
-        ensures shorter { IfSome result (λ _. length tokens.new.rest.now < length tokens.old.rest.now) }
+        ensures shorter { IfSome result
+            (λ _. length tokens.new.rest.now < length tokens.old.rest.now) }
         ensures kept { IfNone result (tokens.new.rest.now ≡ tokens.old.rest.now) }
     {
         let rest = tokens.rest;
@@ -85,7 +89,8 @@ impl<'s> Parser<'s> {
         tokens: &mut Tokens<'_, 'a>,
         word: &str,
     ) -> Out<Lexeme<'a>, Fault>
-        ensures read { Gives (lexeme_node self.now.source.now) (tokens_of self.now.source.now tokens.new.rest.now) result
+        ensures read { Gives (lexeme_node self.now.source.now)
+            (tokens_of self.now.source.now tokens.new.rest.now) result
             (expect (a_keyword word.now) (tokens_of self.now.source.now tokens.old.rest.now)) }
         ensures shorter { OnOk result (length tokens.new.rest.now < length tokens.old.rest.now) }
     {
@@ -97,7 +102,8 @@ impl<'s> Parser<'s> {
 
     /// Takes the next token, which is to be this mark.
     pub fn expect_mark<'a>(&self, tokens: &mut Tokens<'_, 'a>, mark: &str) -> Out<Lexeme<'a>, Fault>
-        ensures read { Gives (lexeme_node self.now.source.now) (tokens_of self.now.source.now tokens.new.rest.now) result
+        ensures read { Gives (lexeme_node self.now.source.now)
+            (tokens_of self.now.source.now tokens.new.rest.now) result
             (expect (a_mark mark.now) (tokens_of self.now.source.now tokens.old.rest.now)) }
         ensures shorter { OnOk result (length tokens.new.rest.now < length tokens.old.rest.now) }
     {
@@ -110,10 +116,15 @@ impl<'s> Parser<'s> {
     /// Takes the next token if it is an identifier.
     #[tactic(auto, unfolding(cedar_grammar::specs::Reading::accepted))]
     pub fn accept_ident(&self, tokens: &mut Tokens<'_, '_>) -> Mem<Option<Node<Id>>>
-        ensures read { IfOk result (λ found. option_map (λ id. (node_of id_word id, tokens_of self.now.source.now tokens.new.rest.now)) found
+        ensures read { IfOk result
+            (λ found.
+            option_map
+            (λ id. (node_of id_word id, tokens_of self.now.source.now tokens.new.rest.now)) found
             ≡ accepted an_ident (tokens_of self.now.source.now tokens.old.rest.now)) }
-        ensures shorter { IfOk result (λ found. IfSome found (λ _. length tokens.new.rest.now < length tokens.old.rest.now)) }
-        ensures kept { IfOk result (λ found. IfNone found (tokens.new.rest.now ≡ tokens.old.rest.now)) }
+        ensures shorter { IfOk result
+            (λ found. IfSome found (λ _. length tokens.new.rest.now < length tokens.old.rest.now)) }
+        ensures kept { IfOk result (λ found. IfNone found (tokens.new.rest.now
+            ≡ tokens.old.rest.now)) }
     {
         let rest = tokens.rest;
         if rest.is_empty() || rest[0].kind != TokenKind::Word {
@@ -129,7 +140,8 @@ impl<'s> Parser<'s> {
 
     /// Takes an identifier.
     pub fn ident(&self, tokens: &mut Tokens<'_, '_>) -> Out<Node<Id>, Fault>
-        ensures read { Gives (node_of id_word) (tokens_of self.now.source.now tokens.new.rest.now) result
+        ensures read { Gives (node_of id_word)
+            (tokens_of self.now.source.now tokens.new.rest.now) result
             (expect an_ident (tokens_of self.now.source.now tokens.old.rest.now)) }
         ensures shorter { OnOk result (length tokens.new.rest.now < length tokens.old.rest.now) }
     {
@@ -141,7 +153,8 @@ impl<'s> Parser<'s> {
 
     /// What a literal stands for, if its escapes are good.
     fn value(&self, text: &str) -> Mem<Option<Text>>
-        ensures { IfOk result (λ value. value ≡ option_and_then text_of_body (literal_body text.now)) }
+        ensures { IfOk result (λ value. value
+            ≡ option_and_then text_of_body (literal_body text.now)) }
     {
         let Some(body) = literal_body(text) else {
             return Ok(None);
@@ -159,10 +172,14 @@ impl<'s> Parser<'s> {
     /// Takes the next token if it is a literal whose escapes are good, and gives what it stands for.
     #[tactic(auto, unfolding(cedar_grammar::specs::Reading::accepted))]
     pub fn accept_literal(&self, tokens: &mut Tokens<'_, '_>) -> Mem<Option<Node<Text>>>
-        ensures read { IfOk result (λ found. option_map (λ text. (text, tokens_of self.now.source.now tokens.new.rest.now)) found
+        ensures read { IfOk result
+            (λ found.
+            option_map (λ text. (text, tokens_of self.now.source.now tokens.new.rest.now)) found
             ≡ accepted literal_value (tokens_of self.now.source.now tokens.old.rest.now)) }
-        ensures shorter { IfOk result (λ found. IfSome found (λ _. length tokens.new.rest.now < length tokens.old.rest.now)) }
-        ensures kept { IfOk result (λ found. IfNone found (tokens.new.rest.now ≡ tokens.old.rest.now)) }
+        ensures shorter { IfOk result
+            (λ found. IfSome found (λ _. length tokens.new.rest.now < length tokens.old.rest.now)) }
+        ensures kept { IfOk result (λ found. IfNone found (tokens.new.rest.now
+            ≡ tokens.old.rest.now)) }
     {
         let rest = tokens.rest;
         if rest.is_empty() || rest[0].kind != TokenKind::Str {
@@ -178,7 +195,8 @@ impl<'s> Parser<'s> {
 
     /// Takes a literal, and gives what it stands for.
     pub fn literal(&self, tokens: &mut Tokens<'_, '_>) -> Out<Node<Text>, Fault>
-        ensures read { Gives (λ text. text) (tokens_of self.now.source.now tokens.new.rest.now) result
+        ensures read { Gives (λ text. text)
+            (tokens_of self.now.source.now tokens.new.rest.now) result
             (expect literal_value (tokens_of self.now.source.now tokens.old.rest.now)) }
         ensures shorter { OnOk result (length tokens.new.rest.now < length tokens.old.rest.now) }
     {
@@ -191,7 +209,8 @@ impl<'s> Parser<'s> {
     /// Takes a name: a word, or what a literal stands for.
     #[tactic(auto, unfolding(cedar_grammar::specs::Reading::name_at, cedar_grammar::specs::Reading::accepted))]
     pub fn name(&self, tokens: &mut Tokens<'_, '_>) -> Out<Node<Text>, Fault>
-        ensures read { Gives (λ text. text) (tokens_of self.now.source.now tokens.new.rest.now) result
+        ensures read { Gives (λ text. text)
+            (tokens_of self.now.source.now tokens.new.rest.now) result
             (name_at (tokens_of self.now.source.now tokens.old.rest.now)) }
         ensures shorter { OnOk result (length tokens.new.rest.now < length tokens.old.rest.now) }
     {

@@ -23,7 +23,8 @@ impl<'s> Parser<'s> {
     #[cycle(parser)]
     #[tactic(auto, using(crate::proofs::TypeTrees::tree_of_record), unfolding(cedar_grammar::specs::Reading::type_at))]
     pub fn type_of(&self, tokens: &mut Tokens<'_, '_>) -> Out<Node<Type>, Fault>
-        ensures read { (n : ℕ) → length tokens.old.rest.now < n → Gives (node_of type_tree) (tokens_of self.now.source.now tokens.new.rest.now) result
+        ensures read { (n : ℕ) → length tokens.old.rest.now < n
+            → Gives (node_of type_tree) (tokens_of self.now.source.now tokens.new.rest.now) result
             (type_at n (tokens_of self.now.source.now tokens.old.rest.now)) }
         ensures shorter { OnOk result (length tokens.new.rest.now < length tokens.old.rest.now) }
     {
@@ -57,7 +58,8 @@ impl<'s> Parser<'s> {
     /// The word `Set` as an identifier.
     fn set_word(&self, set: Lexeme<'_>) -> Mem<Node<Id>>
         requires { set.text.now ≡ codes "Set" }
-        ensures { IfOk result (λ id. node_of id_word id ≡ lexeme_node self.now.source.now set.entry) }
+        ensures { IfOk result (λ id. node_of id_word id
+            ≡ lexeme_node self.now.source.now set.entry) }
     {
         let word = Text::new(self.alloc, set.text)?;
         let loc = self.place(set.start, set.end)?;
@@ -72,7 +74,8 @@ impl<'s> Parser<'s> {
     fn set_of(&self, set: Lexeme<'_>, element: Node<Type>, closing: Lexeme<'_>) -> Mem<Node<Type>>
         ensures { IfOk result (λ set_type. node_of type_tree set_type
             ≡ placed (Set (type_tree element.node) element.loc)
-            (lexeme_node self.now.source.now set.entry).loc (lexeme_node self.now.source.now closing.entry).loc) }
+            (lexeme_node self.now.source.now set.entry).loc
+            (lexeme_node self.now.source.now closing.entry).loc) }
     {
         let loc = self.place(set.start, closing.end)?;
         let element = Boxed::new(self.alloc, element)?;
@@ -86,8 +89,10 @@ impl<'s> Parser<'s> {
     #[tactic(auto, unfolding(crate::specs::Behind::name_behind))]
     fn set_name<'a>(&self, tokens: &mut Tokens<'_, 'a>, set: Lexeme<'a>) -> Out<Node<Type>, Fault>
         requires { set.text.now ≡ codes "Set" }
-        ensures read { Gives (node_of type_tree) (tokens_of self.now.source.now tokens.new.rest.now) result
-            (name_behind (lexeme_node self.now.source.now set.entry) (tokens_of self.now.source.now tokens.old.rest.now)) }
+        ensures read { Gives (node_of type_tree)
+            (tokens_of self.now.source.now tokens.new.rest.now) result
+            (name_behind (lexeme_node self.now.source.now set.entry)
+            (tokens_of self.now.source.now tokens.old.rest.now)) }
         ensures shorter { OnOk result (length tokens.new.rest.now ≤ length tokens.old.rest.now) }
     {
         let word = self.set_word(set)?;
@@ -101,8 +106,10 @@ impl<'s> Parser<'s> {
     #[tactic(auto, unfolding(cedar_grammar::specs::Reading::set_behind, crate::specs::Behind::name_behind))]
     fn set_behind<'a>(&self, tokens: &mut Tokens<'_, 'a>, set: Lexeme<'a>) -> Out<Node<Type>, Fault>
         requires { set.text.now ≡ codes "Set" }
-        ensures read { (n : ℕ) → length tokens.old.rest.now < n → Gives (node_of type_tree) (tokens_of self.now.source.now tokens.new.rest.now) result
-            (set_behind (type_at n) (lexeme_node self.now.source.now set.entry) (tokens_of self.now.source.now tokens.old.rest.now)) }
+        ensures read { (n : ℕ) → length tokens.old.rest.now < n
+            → Gives (node_of type_tree) (tokens_of self.now.source.now tokens.new.rest.now) result
+            (set_behind (type_at n) (lexeme_node self.now.source.now set.entry)
+            (tokens_of self.now.source.now tokens.old.rest.now)) }
         ensures shorter { OnOk result (length tokens.new.rest.now ≤ length tokens.old.rest.now) }
     {
         if let Some(_) = self.accept_mark(tokens, "<") {
@@ -121,8 +128,10 @@ impl<'s> Parser<'s> {
         tokens: &mut Tokens<'_, 'a>,
         opening: Lexeme<'a>,
     ) -> Out<Node<Items<Attribute>>, Fault>
-        ensures read { (n : ℕ) → length tokens.old.rest.now < n → Gives (node_of attrs_tree) (tokens_of self.now.source.now tokens.new.rest.now) result
-            (record_behind (type_at n) (lexeme_node self.now.source.now opening.entry) (tokens_of self.now.source.now tokens.old.rest.now)) }
+        ensures read { (n : ℕ) → length tokens.old.rest.now < n
+            → Gives (node_of attrs_tree) (tokens_of self.now.source.now tokens.new.rest.now) result
+            (record_behind (type_at n) (lexeme_node self.now.source.now opening.entry)
+            (tokens_of self.now.source.now tokens.old.rest.now)) }
         ensures shorter { OnOk result (length tokens.new.rest.now < length tokens.old.rest.now) }
     {
         if let Some(closing) = self.accept_mark(tokens, "}") {
@@ -144,7 +153,8 @@ impl<'s> Parser<'s> {
         tokens: &mut Tokens<'_, 'a>,
     ) -> Out<(Items<Attribute>, Lexeme<'a>), Fault>
         ensures read { (n : ℕ) → length tokens.old.rest.now < n
-            → Gives (λ r. (map (attr_node attr_tree) r.0, lexeme_node self.now.source.now r.1)) (tokens_of self.now.source.now tokens.new.rest.now) result
+            → Gives (λ r. (map (attr_node attr_tree) r.0, lexeme_node self.now.source.now r.1))
+            (tokens_of self.now.source.now tokens.new.rest.now) result
             (braced_at (attr_at (type_at n)) (tokens_of self.now.source.now tokens.old.rest.now)) }
         ensures shorter { OnOk result (length tokens.new.rest.now < length tokens.old.rest.now) }
     {
@@ -166,7 +176,8 @@ impl<'s> Parser<'s> {
     #[cycle(parser)]
     #[tactic(auto, unfolding(cedar_grammar::specs::Reading::attr_at, cedar_grammar::specs::Reading::annotated_at))]
     fn attribute(&self, tokens: &mut Tokens<'_, '_>) -> Out<Attribute, Fault>
-        ensures read { (n : ℕ) → length tokens.old.rest.now < n → Gives (attr_node attr_tree) (tokens_of self.now.source.now tokens.new.rest.now) result
+        ensures read { (n : ℕ) → length tokens.old.rest.now < n
+            → Gives (attr_node attr_tree) (tokens_of self.now.source.now tokens.new.rest.now) result
             (attr_at (type_at n) (tokens_of self.now.source.now tokens.old.rest.now)) }
         ensures shorter { OnOk result (length tokens.new.rest.now < length tokens.old.rest.now) }
     {
@@ -207,7 +218,8 @@ impl<'s> Parser<'s> {
     /// Takes a question mark if it stands next, and says whether it did.
     #[tactic(auto, unfolding(cedar_grammar::specs::Reading::question_at))]
     fn question(&self, tokens: &mut Tokens<'_, '_>) -> bool
-        ensures read { question_at (tokens_of self.now.source.now tokens.old.rest.now) ≡ Ok (result, tokens_of self.now.source.now tokens.new.rest.now) }
+        ensures read { question_at (tokens_of self.now.source.now tokens.old.rest.now)
+            ≡ Ok (result, tokens_of self.now.source.now tokens.new.rest.now) }
         ensures shorter { length tokens.new.rest.now ≤ length tokens.old.rest.now }
     {
         if let Some(_) = self.accept_mark(tokens, "?") {

@@ -35,9 +35,11 @@ fn refuse_undeclared(
     full: &FullTypes,
     others: &[InternalName],
 ) -> Out<(), SchemaError>
-    ensures declared { IfOk result (λ _. (ns : List FullName) × AreNotDeclared (names_of all_defs.now) full.now.common_types full.now.uses others.now ns
+    ensures declared { IfOk result (λ _. (ns : List FullName)
+        × AreNotDeclared (names_of all_defs.now) full.now.common_types full.now.uses others.now ns
         × (undeclared_refusal (filter is_free ns) ≡ None)) }
-    ensures refused { IfRefused result (λ e. (ns : List FullName) × AreNotDeclared (names_of all_defs.now) full.now.common_types full.now.uses others.now ns
+    ensures refused { IfRefused result (λ e. (ns : List FullName)
+        × AreNotDeclared (names_of all_defs.now) full.now.common_types full.now.uses others.now ns
         × (undeclared_refusal (filter is_free ns) ≡ Some (told e))) }
 {
     let names = undeclared_names(alloc, all_defs, &full.common_types, &full.uses, others)?;
@@ -57,11 +59,18 @@ fn finish(
     entity_types: Map<EntityType, EntityOutline>,
     actions: Map<EntityUID, ValidatorActionId>,
 ) -> Out<ValidatorSchema, SchemaError>
-    ensures declared { IfOk result (λ _. (ns : List FullName) × AreNotDeclared (names_of all_defs.now) types.now.full.common_types types.now.full.uses others.items ns
+    ensures declared { IfOk result (λ _. (ns : List FullName)
+        × AreNotDeclared
+        (names_of all_defs.now) types.now.full.common_types types.now.full.uses others.items ns
         × (undeclared_refusal (filter is_free ns) ≡ None)) }
-    ensures entity_types { IfOk result (λ S. AllZip (MakesEntity (names_of all_defs.now) (map entity_outline_in entity_types) types.now.uses) entity_types (types_of S)) }
+    ensures entity_types { IfOk result
+        (λ S. AllZip
+        (MakesEntity (names_of all_defs.now)
+        (map entity_outline_in entity_types) types.now.uses) entity_types (types_of S)) }
     ensures actions { IfOk result (λ S. action_types S ≡ actions) }
-    ensures refused { IfRefused result (λ e. (ns : List FullName) × AreNotDeclared (names_of all_defs.now) types.now.full.common_types types.now.full.uses others.items ns
+    ensures refused { IfRefused result (λ e. (ns : List FullName)
+        × AreNotDeclared
+        (names_of all_defs.now) types.now.full.common_types types.now.full.uses others.items ns
         × (undeclared_refusal (filter is_free ns) ≡ Some (told e))) }
 {
     match refuse_undeclared(alloc, all_defs, &types.full, others.as_slice()) {
@@ -82,10 +91,13 @@ pub(crate) fn assemble(
     entity_types: Map<EntityType, EntityOutline>,
     actions: Map<EntityUID, ActionOutline>,
 ) -> Out<ValidatorSchema, SchemaError>
-    ensures passes { IfOk result (λ _. (W : World) → HoldsUnfolded W all_defs.now types.now.full.common_types types.now.full.uses types.now.uses entity_types actions → AllPassed W last_phases) }
-    ensures denotes { IfOk result (λ S. (W : World) → HoldsUnfolded W all_defs.now types.now.full.common_types types.now.full.uses types.now.uses entity_types actions → Denotes W (schema_in S)) }
+    ensures passes { IfOk result (λ _. (W : World)
+        → HoldsUnfolded W all_defs.now types.now.full.common_types types.now.full.uses types.now.uses entity_types actions → AllPassed W last_phases) }
+    ensures denotes { IfOk result (λ S. (W : World)
+        → HoldsUnfolded W all_defs.now types.now.full.common_types types.now.full.uses types.now.uses entity_types actions → Denotes W (schema_in S)) }
     ensures named { IfOk result IsNamed }
-    ensures refused { IfRefused result (λ e. (W : World) → HoldsUnfolded W all_defs.now types.now.full.common_types types.now.full.uses types.now.uses entity_types actions → OneRefuses W last_phases (told e)) }
+    ensures refused { IfRefused result (λ e. (W : World)
+        → HoldsUnfolded W all_defs.now types.now.full.common_types types.now.full.uses types.now.uses entity_types actions → OneRefuses W last_phases (told e)) }
 {
     let memberships = membership_names(alloc, all_defs, &entity_types, &actions)?;
     match resolved_actions(alloc, all_defs, actions, &types.uses) {

@@ -20,8 +20,14 @@ use std::alloc::Global;
 /// Refused with the references of definitions that mean nothing declared; where there are none, with the first name
 /// with `__cedar` that a parent, a principal or a resource means.
 fn refuse_missing(alloc: Global, all_defs: &AllDefs, definitions: &Fragment) -> Out<(), SchemaError>
-    ensures nothing { IfOk result (λ _. refusal_of (missing_in_each (missing_in_definition (names_of all_defs.now)) (definitions_of definitions.now)) ≡ None) }
-    ensures refused { IfRefused result (λ e. refusal_of (missing_in_each (missing_in_definition (names_of all_defs.now)) (definitions_of definitions.now)) ≡ Some e) }
+    ensures nothing { IfOk result
+        (λ _. refusal_of
+        (missing_in_each (missing_in_definition (names_of all_defs.now))
+        (definitions_of definitions.now)) ≡ None) }
+    ensures refused { IfRefused result
+        (λ e. refusal_of
+        (missing_in_each (missing_in_definition (names_of all_defs.now))
+        (definitions_of definitions.now)) ≡ Some e) }
 {
     let missing = definitions.missing(alloc, all_defs)?;
     match missing.into_refusal() {
@@ -37,8 +43,11 @@ pub(crate) fn check_definitions(
     all_defs: &AllDefs,
     definitions: &Fragment,
 ) -> Out<(), SchemaError>
-    ensures passes { IfOk result (λ _. (W : World) (X : Extensions) → Holds W all_defs.now (definitions_of definitions.now) X → AllPassed W early_phases) }
-    ensures refused { IfRefused result (λ e. (W : World) (X : Extensions) → Holds W all_defs.now (definitions_of definitions.now) X → OneRefuses W early_phases (told e)) }
+    ensures passes { IfOk result (λ _. (W : World) (X : Extensions)
+        → Holds W all_defs.now (definitions_of definitions.now) X → AllPassed W early_phases) }
+    ensures refused { IfRefused result (λ e. (W : World) (X : Extensions)
+        → Holds W all_defs.now (definitions_of definitions.now) X
+        → OneRefuses W early_phases (told e)) }
 {
     match refuse_missing(alloc, all_defs, definitions) {
         Ok(()) => refuse_duplicates(alloc, definitions.definitions()),

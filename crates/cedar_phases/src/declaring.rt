@@ -59,7 +59,8 @@ fn all_definitions(alloc: Global, fragments: Vec<Fragment>) -> Mem<Vec<Definitio
 
 /// The definitions of all fragments, and then these.
 fn join(alloc: Global, fragments: Vec<Fragment>, last: Fragment) -> Mem<Fragment>
-    ensures { IfOk result (λ f. definitions_of f ≡ flat_map definitions_of fragments.items ++ definitions_of last) }
+    ensures { IfOk result (λ f. definitions_of f ≡ flat_map definitions_of fragments.items
+        ++ definitions_of last) }
 {
     let mut all = all_definitions(alloc, fragments)?;
     push_all(&mut all, last.into_definitions())?;
@@ -73,8 +74,11 @@ fn declare_all(
     fragments: Vec<Fragment>,
     extensions: &Extensions,
 ) -> Mem<Declarations>
-    requires { SameNames (names_of own.now) (declared_names (flat_map definitions_of fragments.items)) }
-    ensures { IfOk result (λ d. Holds (world_of fragments.items extensions.now) d.all_defs (definitions_of d.definitions) extensions.now) }
+    requires { SameNames (names_of own.now)
+        (declared_names (flat_map definitions_of fragments.items)) }
+    ensures { IfOk result
+        (λ d. Holds (world_of fragments.items extensions.now) d.all_defs
+        (definitions_of d.definitions) extensions.now) }
 {
     let builtins = builtin_definitions(alloc, own, extensions)?;
     let definitions = join(alloc, fragments, builtins)?;
@@ -92,10 +96,14 @@ fn declare_with(
     fragments: Vec<Fragment>,
     extensions: &Extensions,
 ) -> Out<Declarations, SchemaError>
-    requires { SameNames (names_of own.now) (declared_names (flat_map definitions_of fragments.items)) }
+    requires { SameNames (names_of own.now)
+        (declared_names (flat_map definitions_of fragments.items)) }
     ensures passes { IfOk result (λ _. Passes (world_of fragments.items extensions.now) Shadowing) }
-    ensures holds { IfOk result (λ d. Holds (world_of fragments.items extensions.now) d.all_defs (definitions_of d.definitions) extensions.now) }
-    ensures refused { IfRefused result (λ e. RefusesAt (world_of fragments.items extensions.now) Shadowing (told e)) }
+    ensures holds { IfOk result
+        (λ d. Holds (world_of fragments.items extensions.now) d.all_defs
+        (definitions_of d.definitions) extensions.now) }
+    ensures refused { IfRefused result
+        (λ e. RefusesAt (world_of fragments.items extensions.now) Shadowing (told e)) }
 {
     match own.rfc_70_shadowing_checks(alloc) {
         Ok(()) => {
@@ -114,8 +122,11 @@ pub(crate) fn declare(
     extensions: &Extensions,
 ) -> Out<Declarations, SchemaError>
     ensures passes { IfOk result (λ _. Passes (world_of fragments.items extensions.now) Shadowing) }
-    ensures holds { IfOk result (λ d. Holds (world_of fragments.items extensions.now) d.all_defs (definitions_of d.definitions) extensions.now) }
-    ensures refused { IfRefused result (λ e. RefusesAt (world_of fragments.items extensions.now) Shadowing (told e)) }
+    ensures holds { IfOk result
+        (λ d. Holds (world_of fragments.items extensions.now) d.all_defs
+        (definitions_of d.definitions) extensions.now) }
+    ensures refused { IfRefused result
+        (λ e. RefusesAt (world_of fragments.items extensions.now) Shadowing (told e)) }
 {
     let own = AllDefs::new(alloc, fragments.as_slice())?;
     declare_with(alloc, &own, fragments, extensions)

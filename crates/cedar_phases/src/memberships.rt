@@ -61,7 +61,8 @@ fn push_parents(
     names: &mut Vec<InternalName>,
 ) -> Mem<()>
     ensures { OnOk result (map components names.new.items ≡ map components names.old.items
-        ++ targets (names_of all_defs.now) (flat_map (λ e. e.1.parents) (map entity_outline_in entity_types.now))) }
+        ++ targets (names_of all_defs.now)
+        (flat_map (λ e. e.1.parents) (map entity_outline_in entity_types.now))) }
 {
     for (_, outline) in entity_types.iter() {
         push_targets(alloc, all_defs, &outline.parents, names)?;
@@ -77,7 +78,8 @@ fn push_application(
     names: &mut Vec<InternalName>,
 ) -> Mem<()>
     ensures { OnOk result (map components names.new.items ≡ map components names.old.items
-        ++ targets (names_of all_defs.now) ((parts_of_action outline.now).principals ++ (parts_of_action outline.now).resources)) }
+        ++ targets (names_of all_defs.now) ((parts_of_action outline.now).principals
+        ++ (parts_of_action outline.now).resources)) }
 {
     push_targets(
         alloc,
@@ -103,7 +105,8 @@ fn push_applications(
     names: &mut Vec<InternalName>,
 ) -> Mem<()>
     ensures { OnOk result (map components names.new.items ≡ map components names.old.items
-        ++ targets (names_of all_defs.now) (flat_map (λ a. a.1.principals ++ a.1.resources) (map action_outline_in actions.now))) }
+        ++ targets (names_of all_defs.now)
+        (flat_map (λ a. a.1.principals ++ a.1.resources) (map action_outline_in actions.now))) }
 {
     for (_, outline) in actions.iter() {
         push_application(alloc, all_defs, outline, names)?;
@@ -119,8 +122,10 @@ pub(crate) fn membership_names(
     actions: &Map<EntityUID, ActionOutline>,
 ) -> Mem<Vec<InternalName>>
     ensures { IfOk result (λ names. map components names.items
-        ≡ targets (names_of all_defs.now) (flat_map (λ e. e.1.parents) (map entity_outline_in entity_types.now))
-        ++ targets (names_of all_defs.now) (flat_map (λ a. a.1.principals ++ a.1.resources) (map action_outline_in actions.now))) }
+        ≡ targets (names_of all_defs.now)
+        (flat_map (λ e. e.1.parents) (map entity_outline_in entity_types.now))
+        ++ targets (names_of all_defs.now)
+        (flat_map (λ a. a.1.principals ++ a.1.resources) (map action_outline_in actions.now))) }
 {
     let mut names = Vec::new(alloc);
     push_parents(alloc, all_defs, entity_types, &mut names)?;

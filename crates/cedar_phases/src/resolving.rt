@@ -44,10 +44,16 @@ fn resolve_tables(
     tables: Tables,
     extensions: &Extensions,
 ) -> Out<ValidatorSchema, SchemaError>
-    ensures passes { IfOk result (λ _. (W : World) (ds : List Definition) → Holds W all_defs.now ds extensions.now → AreTables W tables → Passes W References → AllPassed W later_phases) }
-    ensures denotes { IfOk result (λ S. (W : World) (ds : List Definition) → Holds W all_defs.now ds extensions.now → AreTables W tables → Passes W References → Denotes W (schema_in S)) }
+    ensures passes { IfOk result (λ _. (W : World) (ds : List Definition)
+        → Holds W all_defs.now ds extensions.now → AreTables W tables → Passes W References
+        → AllPassed W later_phases) }
+    ensures denotes { IfOk result (λ S. (W : World) (ds : List Definition)
+        → Holds W all_defs.now ds extensions.now → AreTables W tables → Passes W References
+        → Denotes W (schema_in S)) }
     ensures named { IfOk result IsNamed }
-    ensures refused { IfRefused result (λ e. (W : World) (ds : List Definition) → Holds W all_defs.now ds extensions.now → AreTables W tables → Passes W References → OneRefuses W later_phases (told e)) }
+    ensures refused { IfRefused result (λ e. (W : World) (ds : List Definition)
+        → Holds W all_defs.now ds extensions.now → AreTables W tables → Passes W References
+        → OneRefuses W later_phases (told e)) }
 {
     let Tables {
         common_types,
@@ -68,10 +74,16 @@ fn resolve_checked(
     definitions: Fragment,
     extensions: &Extensions,
 ) -> Out<ValidatorSchema, SchemaError>
-    ensures passes { IfOk result (λ _. (W : World) → Holds W all_defs.now (definitions_of definitions) extensions.now → Passes W References → AllPassed W later_phases) }
-    ensures denotes { IfOk result (λ S. (W : World) → Holds W all_defs.now (definitions_of definitions) extensions.now → Passes W References → Denotes W (schema_in S)) }
+    ensures passes { IfOk result (λ _. (W : World)
+        → Holds W all_defs.now (definitions_of definitions) extensions.now → Passes W References
+        → AllPassed W later_phases) }
+    ensures denotes { IfOk result (λ S. (W : World)
+        → Holds W all_defs.now (definitions_of definitions) extensions.now → Passes W References
+        → Denotes W (schema_in S)) }
     ensures named { IfOk result IsNamed }
-    ensures refused { IfRefused result (λ e. (W : World) → Holds W all_defs.now (definitions_of definitions) extensions.now → Passes W References → OneRefuses W later_phases (told e)) }
+    ensures refused { IfRefused result (λ e. (W : World)
+        → Holds W all_defs.now (definitions_of definitions) extensions.now → Passes W References
+        → OneRefuses W later_phases (told e)) }
 {
     let tables = tables_of(alloc, definitions.into_definitions())?;
     resolve_tables(alloc, all_defs, tables, extensions)
@@ -83,11 +95,19 @@ fn resolve_declarations(
     declarations: Declarations,
     extensions: &Extensions,
 ) -> Out<ValidatorSchema, SchemaError>
-    ensures early { IfOk result (λ _. (W : World) → Holds W declarations.all_defs (definitions_of declarations.definitions) extensions.now → AllPassed W early_phases) }
-    ensures later { IfOk result (λ _. (W : World) → Holds W declarations.all_defs (definitions_of declarations.definitions) extensions.now → AllPassed W later_phases) }
-    ensures denotes { IfOk result (λ S. (W : World) → Holds W declarations.all_defs (definitions_of declarations.definitions) extensions.now → Denotes W (schema_in S)) }
+    ensures early { IfOk result (λ _. (W : World)
+        → Holds W declarations.all_defs (definitions_of declarations.definitions) extensions.now
+        → AllPassed W early_phases) }
+    ensures later { IfOk result (λ _. (W : World)
+        → Holds W declarations.all_defs (definitions_of declarations.definitions) extensions.now
+        → AllPassed W later_phases) }
+    ensures denotes { IfOk result (λ S. (W : World)
+        → Holds W declarations.all_defs (definitions_of declarations.definitions) extensions.now
+        → Denotes W (schema_in S)) }
     ensures named { IfOk result IsNamed }
-    ensures refused { IfRefused result (λ e. (W : World) → Holds W declarations.all_defs (definitions_of declarations.definitions) extensions.now → OneRefuses W (early_phases ++ later_phases) (told e)) }
+    ensures refused { IfRefused result (λ e. (W : World)
+        → Holds W declarations.all_defs (definitions_of declarations.definitions) extensions.now
+        → OneRefuses W (early_phases ++ later_phases) (told e)) }
 {
     let Declarations {
         all_defs,
@@ -106,9 +126,11 @@ impl FromSchemaFragments for ValidatorSchema {
         extensions: &Extensions,
     ) -> Out<ValidatorSchema, SchemaError>
         ensures sound { IfOk result (λ _. Sound (world_of fragments.items extensions.now)) }
-        ensures denotes { IfOk result (λ S. Denotes (world_of fragments.items extensions.now) (schema_in S)) }
+        ensures denotes { IfOk result
+            (λ S. Denotes (world_of fragments.items extensions.now) (schema_in S)) }
         ensures named { IfOk result IsNamed }
-        ensures refused { IfRefused result (λ e. Cause (world_of fragments.items extensions.now) (told e)) }
+        ensures refused { IfRefused result
+            (λ e. Cause (world_of fragments.items extensions.now) (told e)) }
     {
         match declare(alloc, fragments, extensions) {
             Ok(declarations) => resolve_declarations(alloc, declarations, extensions),

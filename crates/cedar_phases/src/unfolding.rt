@@ -47,10 +47,18 @@ pub(crate) fn full_types(
     common_types: Map<InternalName, SchemaType<ConditionalName>>,
     uses: Map<UsePlace, SchemaType<ConditionalName>>,
 ) -> Out<FullTypes, SchemaError>
-    ensures common_types { IfOk result (λ f. all_values (map_values (through_type (resolving (names_of all_defs.now))) common_types) ≡ Ok f.common_types) }
-    ensures uses { IfOk result (λ f. all_values (map_values (through_type (resolving (names_of all_defs.now))) uses) ≡ Ok f.uses) }
-    ensures refused { IfRefused result (λ e. (all_values (map_values (through_type (resolving (names_of all_defs.now))) common_types) ≡ Err e)
-        ⊎ (all_values (map_values (through_type (resolving (names_of all_defs.now))) uses) ≡ Err e)) }
+    ensures common_types { IfOk result
+        (λ f. all_values
+        (map_values (through_type (resolving (names_of all_defs.now))) common_types)
+        ≡ Ok f.common_types) }
+    ensures uses { IfOk result
+        (λ f. all_values (map_values (through_type (resolving (names_of all_defs.now))) uses)
+        ≡ Ok f.uses) }
+    ensures refused { IfRefused result
+        (λ e. (all_values
+        (map_values (through_type (resolving (names_of all_defs.now))) common_types) ≡ Err e)
+        ⊎ (all_values (map_values (through_type (resolving (names_of all_defs.now))) uses)
+        ≡ Err e)) }
 {
     let step = Resolving { all_defs };
     let common_types = common_types.walk(alloc, &step)?;
@@ -74,9 +82,19 @@ fn unfold_full(
     extensions: &Extensions,
 ) -> Out<UnfoldedTypes, SchemaError>
     ensures full { IfOk result (λ u. u.full ≡ full) }
-    ensures done { IfOk result (λ _. Unfoldable (job_of (by_name (written_type components) full.common_types) (by_place (written_type components) full.uses) extensions.now)) }
-    ensures unfolded { IfOk result (λ u. (cs : List (FullName × Resolved)) × IsUnfolded (job_of (by_name (written_type components) full.common_types) (by_place (written_type components) full.uses) extensions.now) cs (by_place resolved u.uses)) }
-    ensures refused { IfRefused result (λ e. WhyNotUnfoldable (job_of (by_name (written_type components) full.common_types) (by_place (written_type components) full.uses) extensions.now) (told e)) }
+    ensures done { IfOk result
+        (λ _. Unfoldable
+        (job_of (by_name (written_type components) full.common_types)
+        (by_place (written_type components) full.uses) extensions.now)) }
+    ensures unfolded { IfOk result (λ u. (cs : List (FullName × Resolved))
+        × IsUnfolded
+        (job_of (by_name (written_type components) full.common_types)
+        (by_place (written_type components) full.uses) extensions.now) cs
+        (by_place resolved u.uses)) }
+    ensures refused { IfRefused result
+        (λ e. WhyNotUnfoldable
+        (job_of (by_name (written_type components) full.common_types)
+        (by_place (written_type components) full.uses) extensions.now) (told e)) }
 {
     match unfold_uncounted(alloc, &full.common_types, &full.uses, extensions) {
         Ok(unfolded) => {
@@ -95,12 +113,18 @@ pub(crate) fn unfolded_types(
     uses: Map<UsePlace, SchemaType<ConditionalName>>,
     extensions: &Extensions,
 ) -> Out<UnfoldedTypes, SchemaError>
-    ensures passes { IfOk result (λ u. (W : World) → HoldsTypes W all_defs.now extensions.now common_types uses → Passes W Unfolding) }
-    ensures qualifies { IfOk result (λ u. (W : World) → HoldsTypes W all_defs.now extensions.now common_types uses
-        → QualifiesJob (job W) (by_name (written_type components) u.full.common_types) (by_place (written_type components) u.full.uses)) }
-    ensures unfolded { IfOk result (λ u. (W : World) → HoldsTypes W all_defs.now extensions.now common_types uses
+    ensures passes { IfOk result (λ u. (W : World)
+        → HoldsTypes W all_defs.now extensions.now common_types uses → Passes W Unfolding) }
+    ensures qualifies { IfOk result (λ u. (W : World)
+        → HoldsTypes W all_defs.now extensions.now common_types uses
+        → QualifiesJob (job W) (by_name (written_type components) u.full.common_types)
+        (by_place (written_type components) u.full.uses)) }
+    ensures unfolded { IfOk result (λ u. (W : World)
+        → HoldsTypes W all_defs.now extensions.now common_types uses
         → AllZip (UnfoldsAt (job W)) (uses_of W) (by_place resolved u.uses)) }
-    ensures refused { IfRefused result (λ e. (W : World) → HoldsTypes W all_defs.now extensions.now common_types uses → RefusesAt W Unfolding (told e)) }
+    ensures refused { IfRefused result (λ e. (W : World)
+        → HoldsTypes W all_defs.now extensions.now common_types uses
+        → RefusesAt W Unfolding (told e)) }
 {
     match full_types(alloc, all_defs, common_types, uses) {
         Ok(full) => unfold_full(alloc, full, extensions),

@@ -13,7 +13,8 @@ pub fn write_annotations<W: fmt::Write>(
     annotations: &Annotations,
     f: &mut fmt::Formatter<W>,
 ) -> fmt::Result
-    ensures { DisplaysOnOk W.write_str_gives f.old result (text_of nameless (annotations_pieces annotations.now)) f.new }
+    ensures { DisplaysOnOk W.write_str_gives f.old result
+        (text_of nameless (annotations_pieces annotations.now)) f.new }
 {
     for (key, annotation) in annotations.iter() {
         write_annotation(key, annotation, f)?;
@@ -27,7 +28,8 @@ fn write_annotation<W: fmt::Write>(
     annotation: &Annotation,
     f: &mut fmt::Formatter<W>,
 ) -> fmt::Result
-    ensures { DisplaysOnOk W.write_str_gives f.old result (text_of nameless (annotation_pieces (key.now, annotation.now))) f.new }
+    ensures { DisplaysOnOk W.write_str_gives f.old result
+        (text_of nameless (annotation_pieces (key.now, annotation.now))) f.new }
 {
     let value = Quoted(&annotation.val);
     write!(f, "@{key}({value})\n")

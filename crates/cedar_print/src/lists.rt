@@ -15,7 +15,8 @@ pub fn write_list<T: fmt::Display, W: fmt::Write>(
     items: &Items<T>,
     f: &mut fmt::Formatter<W>,
 ) -> fmt::Result
-    ensures { DisplaysOnOk W.write_str_gives f.old result (text_of T.output (bracketed named items.now)) f.new }
+    ensures { DisplaysOnOk W.write_str_gives f.old result
+        (text_of T.output (bracketed named items.now)) f.new }
 {
     write!(f, "[")?;
     write_separated(items.as_slice(), f)?;
@@ -27,7 +28,8 @@ fn write_separated<T: fmt::Display, W: fmt::Write>(
     items: &[T],
     f: &mut fmt::Formatter<W>,
 ) -> fmt::Result
-    ensures { DisplaysOnOk W.write_str_gives f.old result (text_of T.output (separated comma named items.now)) f.new }
+    ensures { DisplaysOnOk W.write_str_gives f.old result
+        (text_of T.output (separated comma named items.now)) f.new }
 {
     let Some((first, others)) = items.split_first() else {
         return Ok(());
@@ -41,7 +43,8 @@ pub fn write_item<T: fmt::Display, W: fmt::Write>(
     first: &T,
     f: &mut fmt::Formatter<W>,
 ) -> fmt::Result
-    ensures { DisplaysOnOk W.write_str_gives f.old result (text_of T.output (named first.now)) f.new }
+    ensures { DisplaysOnOk W.write_str_gives f.old result
+        (text_of T.output (named first.now)) f.new }
 {
     write!(f, "{first}")
 }
@@ -52,7 +55,8 @@ fn write_others<T: fmt::Display, W: fmt::Write>(
     others: &[T],
     f: &mut fmt::Formatter<W>,
 ) -> fmt::Result
-    ensures { DisplaysOnOk W.write_str_gives f.old result (text_of T.output (following comma named others.now)) f.new }
+    ensures { DisplaysOnOk W.write_str_gives f.old result
+        (text_of T.output (following comma named others.now)) f.new }
 {
     for other in others {
         write_other(other, f)?;
@@ -62,7 +66,8 @@ fn write_others<T: fmt::Display, W: fmt::Write>(
 
 /// Writes an item behind `, `.
 fn write_other<T: fmt::Display, W: fmt::Write>(other: &T, f: &mut fmt::Formatter<W>) -> fmt::Result
-    ensures { DisplaysOnOk W.write_str_gives f.old result (text_of T.output (comma ++ named other.now)) f.new }
+    ensures { DisplaysOnOk W.write_str_gives f.old result
+        (text_of T.output (comma ++ named other.now)) f.new }
 {
     write!(f, ", {other}")
 }
@@ -72,7 +77,8 @@ pub fn write_quoted_list<W: fmt::Write>(
     texts: &NonEmpty<Text>,
     f: &mut fmt::Formatter<W>,
 ) -> fmt::Result
-    ensures { DisplaysOnOk W.write_str_gives f.old result (text_of nameless (bracketed quoted_alone (elements texts.now))) f.new }
+    ensures { DisplaysOnOk W.write_str_gives f.old result
+        (text_of nameless (bracketed quoted_alone (elements texts.now))) f.new }
 {
     write!(f, "[")?;
     write_quoted_texts(texts, f)?;
@@ -84,7 +90,8 @@ fn write_quoted_texts<W: fmt::Write>(
     texts: &NonEmpty<Text>,
     f: &mut fmt::Formatter<W>,
 ) -> fmt::Result
-    ensures { DisplaysOnOk W.write_str_gives f.old result (text_of nameless (separated comma quoted_alone (elements texts.now))) f.new }
+    ensures { DisplaysOnOk W.write_str_gives f.old result
+        (text_of nameless (separated comma quoted_alone (elements texts.now))) f.new }
 {
     write_quoted(&texts.head, f)?;
     write_other_texts(texts.tail.as_slice(), f)
@@ -93,7 +100,8 @@ fn write_quoted_texts<W: fmt::Write>(
 /// Writes each text, quoted, behind `, `.
 #[tactic(auto, using(crate::proofs::Prints::prints))]
 fn write_other_texts<W: fmt::Write>(texts: &[Text], f: &mut fmt::Formatter<W>) -> fmt::Result
-    ensures { DisplaysOnOk W.write_str_gives f.old result (text_of nameless (following comma quoted_alone texts.now)) f.new }
+    ensures { DisplaysOnOk W.write_str_gives f.old result
+        (text_of nameless (following comma quoted_alone texts.now)) f.new }
 {
     for text in texts {
         write_other_text(text, f)?;
@@ -103,7 +111,8 @@ fn write_other_texts<W: fmt::Write>(texts: &[Text], f: &mut fmt::Formatter<W>) -
 
 /// Writes a text, quoted, behind `, `.
 fn write_other_text<W: fmt::Write>(text: &Text, f: &mut fmt::Formatter<W>) -> fmt::Result
-    ensures { DisplaysOnOk W.write_str_gives f.old result (text_of nameless (comma ++ quoted_alone text.now)) f.new }
+    ensures { DisplaysOnOk W.write_str_gives f.old result
+        (text_of nameless (comma ++ quoted_alone text.now)) f.new }
 {
     let text = Quoted(text);
     write!(f, ", {text}")
@@ -111,7 +120,8 @@ fn write_other_text<W: fmt::Write>(text: &Text, f: &mut fmt::Formatter<W>) -> fm
 
 /// Writes a text, quoted.
 fn write_quoted<W: fmt::Write>(text: &Text, f: &mut fmt::Formatter<W>) -> fmt::Result
-    ensures { DisplaysOnOk W.write_str_gives f.old result (text_of nameless (quoted_alone text.now)) f.new }
+    ensures { DisplaysOnOk W.write_str_gives f.old result
+        (text_of nameless (quoted_alone text.now)) f.new }
 {
     let text = Quoted(text);
     write!(f, "{text}")

@@ -43,11 +43,15 @@ impl ValidatorActionId {
         loc: Option<Loc>,
     ) -> Mem<ValidatorActionId>
         ensures name { IfOk result (λ action. action_name action ≡ name) }
-        ensures principals { IfOk result (λ action. action_principals action ≡ set_of entity_cmp principal_entity_types.items) }
-        ensures resources { IfOk result (λ action. action_resources action ≡ set_of entity_cmp resource_entity_types.items) }
-        ensures descendants { IfOk result (λ action. action_descendants action ≡ set_of uid_cmp descendants.items) }
+        ensures principals { IfOk result (λ action. action_principals action
+            ≡ set_of entity_cmp principal_entity_types.items) }
+        ensures resources { IfOk result (λ action. action_resources action
+            ≡ set_of entity_cmp resource_entity_types.items) }
+        ensures descendants { IfOk result (λ action. action_descendants action
+            ≡ set_of uid_cmp descendants.items) }
         ensures context { IfOk result (λ action. action_context action ≡ context) }
-        ensures attribute_types { IfOk result (λ action. action_attribute_types action ≡ attribute_types) }
+        ensures attribute_types { IfOk result (λ action. action_attribute_types action
+            ≡ attribute_types) }
         ensures attributes { IfOk result (λ action. action_attributes action ≡ attributes) }
         ensures loc { IfOk result (λ action. action_loc action ≡ loc) }
     {

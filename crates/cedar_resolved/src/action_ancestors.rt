@@ -54,7 +54,8 @@ fn note_action(
     noted: &mut ActionAncestors,
 ) -> Mem<()>
     ensures { OnOk result ((uid : EntityUID) → noted_of noted.new.entries uid
-        ≡ noted_of noted.old.entries uid ++ one_where (action_is_above uid (name.now, action.now)) name.now) }
+        ≡ noted_of noted.old.entries uid
+        ++ one_where (action_is_above uid (name.now, action.now)) name.now) }
 {
     for descendant in action.descendants() {
         let descendant = descendant.dup(alloc)?;

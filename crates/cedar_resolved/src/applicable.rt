@@ -50,7 +50,8 @@ fn first_principal<'a>(
     actions: &mut ActionIter<'a>,
 ) -> Option<(&'a EntityType, SetIter<'a, EntityType>)>
     ensures { MatchOption result ((principals_of actions.old ≡ []) × (actions.new ≡ []))
-        (λ found. principals_of actions.old ≡ found.0.now ∷ (found.1 ++ principals_of actions.new)) }
+        (λ found. principals_of actions.old
+        ≡ found.0.now ∷ (found.1 ++ principals_of actions.new)) }
 {
     while let Some(action) = actions.next() {
         let mut principals = action.principals();

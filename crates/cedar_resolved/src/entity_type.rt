@@ -43,7 +43,8 @@ impl ValidatorEntityType {
         loc: Option<Loc>,
     ) -> Mem<ValidatorEntityType>
         ensures name { IfOk result (λ ty. type_name ty ≡ name) }
-        ensures descendants { IfOk result (λ ty. ty.descendants ≡ set_of entity_cmp descendants.items) }
+        ensures descendants { IfOk result (λ ty. ty.descendants
+            ≡ set_of entity_cmp descendants.items) }
         ensures attributes { IfOk result (λ ty. type_attributes ty ≡ attributes) }
         ensures kind { IfOk result (λ ty. ty.kind ≡ standard_kind open_attributes tags) }
         ensures loc { IfOk result (λ ty. ty.loc ≡ loc) }
@@ -66,7 +67,8 @@ impl ValidatorEntityType {
         loc: Option<Loc>,
     ) -> Mem<ValidatorEntityType>
         ensures name { IfOk result (λ ty. type_name ty ≡ name) }
-        ensures descendants { IfOk result (λ ty. ty.descendants ≡ set_of entity_cmp descendants.items) }
+        ensures descendants { IfOk result (λ ty. ty.descendants
+            ≡ set_of entity_cmp descendants.items) }
         ensures attributes { IfOk result (λ ty. type_attributes ty ≡ no_attributes) }
         ensures kind { IfOk result (λ ty. ty.kind ≡ enum_kind values) }
         ensures loc { IfOk result (λ ty. ty.loc ≡ loc) }

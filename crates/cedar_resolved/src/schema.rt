@@ -34,7 +34,8 @@ pub type ActionKeyIter<'a> = Keys<'a, EntityUID, ValidatorActionId>;
 
 /// The nodes by their names. Of several of one name the last stays.
 fn by_name<K: TcKey, V: TcNode<K>>(alloc: Global, nodes: Vec<V>) -> Mem<Map<K, V>>
-    ensures { IfOk result (λ made. made ≡ map_of K.cmp (map (λ node. (V.key node, node)) nodes.items)) }
+    ensures { IfOk result (λ made. made
+        ≡ map_of K.cmp (map (λ node. (V.key node, node)) nodes.items)) }
 {
     let mut pairs = Vec::new(alloc);
     for node in nodes {
@@ -52,8 +53,10 @@ impl ValidatorSchema {
         entity_types: Vec<ValidatorEntityType>,
         action_ids: Vec<ValidatorActionId>,
     ) -> Mem<ValidatorSchema>
-        ensures types { IfOk result (λ schema. types schema ≡ map_of entity_cmp (map type_entry entity_types.items)) }
-        ensures actions { IfOk result (λ schema. action_types schema ≡ map_of uid_cmp (map action_entry action_ids.items)) }
+        ensures types { IfOk result (λ schema. types schema
+            ≡ map_of entity_cmp (map type_entry entity_types.items)) }
+        ensures actions { IfOk result (λ schema. action_types schema
+            ≡ map_of uid_cmp (map action_entry action_ids.items)) }
     {
         let entity_types = by_name(alloc, entity_types)?;
         let action_ids = by_name(alloc, action_ids)?;

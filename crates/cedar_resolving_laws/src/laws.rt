@@ -18,7 +18,8 @@ ghost use Rattle.cedar_written.specs.declared.reference_type.ReferenceType.TheVa
 /// caller declares at most: not both for that in the namespace and for that without one. It does nothing when it runs.
 #[tactic(auto, using(crate::proofs::WorldLaws::one_possibility))]
 pub fn one_possibility()
-    ensures { (W : World) (a : List ℕ) (ns : FullName) (x : List ℕ) → Sound W → has_cedar (a ∷ ns ++ x ∷ []) ≡ false
+    ensures { (W : World) (a : List ℕ) (ns : FullName) (x : List ℕ) → Sound W
+        → has_cedar (a ∷ ns ++ x ∷ []) ≡ false
         → IsTrue (is_declared (own W) CommonOrEntity (a ∷ ns ++ x ∷ []))
         → IsTrue (is_declared (own W) CommonOrEntity (x ∷ [])) → ⊥ }
 {}
@@ -27,8 +28,10 @@ pub fn one_possibility()
 /// from itself. It does nothing when it runs.
 #[tactic(auto, using(crate::proofs::WorldLaws::types_join, crate::proofs::WorldLaws::actions_join, crate::proofs::WorldLaws::none_its_own))]
 pub fn descents()
-    ensures types { (W : World) (a b c : FullName) → DescendsFrom W a b → DescendsFrom W b c → DescendsFrom W a c }
-    ensures actions { (W : World) (a b c : Uid) → ActionDescendsFrom W a b → ActionDescendsFrom W b c
+    ensures types { (W : World) (a b c : FullName) → DescendsFrom W a b → DescendsFrom W b c
+        → DescendsFrom W a c }
+    ensures actions { (W : World) (a b c : Uid) → ActionDescendsFrom W a b
+        → ActionDescendsFrom W b c
         → ActionDescendsFrom W a c }
     ensures none { (W : World) (u : Uid) → Sound W → ActionDescendsFrom W u u → ⊥ }
 {}
@@ -39,10 +42,13 @@ pub fn descents()
 pub fn orders_of_fragments()
     ensures sound { (W : World) (all : List Namespace) → Reordered W.namespaces all → Sound W
         → Sound (with_namespaces W all) }
-    ensures denotes { (W : World) (all : List Namespace) → Reordered W.namespaces all → (S : Schema) → Sound W
+    ensures denotes { (W : World) (all : List Namespace) → Reordered W.namespaces all → (S : Schema)
+        → Sound W
         → Denotes W S → Denotes (with_namespaces W all) S }
-    ensures fragments_sound { (fs gs : List Fragment) (X : Extensions) → Reordered fs gs → Sound (world_of fs X)
+    ensures fragments_sound { (fs gs : List Fragment) (X : Extensions) → Reordered fs gs
+        → Sound (world_of fs X)
         → Sound (world_of gs X) }
-    ensures fragments_denote { (fs gs : List Fragment) (X : Extensions) → Reordered fs gs → (S : Schema)
+    ensures fragments_denote { (fs gs : List Fragment) (X : Extensions) → Reordered fs gs
+        → (S : Schema)
         → Sound (world_of fs X) → Denotes (world_of fs X) S → Denotes (world_of gs X) S }
 {}

@@ -103,7 +103,8 @@ impl FromFragment for ValidatorSchema {
         ensures sound { IfOk result (λ _.
             SoundFragment ProhibitAttributes all_extensions (fragment_seen fragment)) }
         ensures denotes { IfOk result (λ schema.
-            Denotes (world_of_fragment (fragment_seen fragment) all_extensions) (schema_in schema)) }
+            Denotes (world_of_fragment (fragment_seen fragment) all_extensions)
+            (schema_in schema)) }
         ensures named { IfOk result IsNamed }
         ensures refused { IfRefused result (λ e.
             FragmentCause ProhibitAttributes all_extensions (fragment_seen fragment) (told e)) }

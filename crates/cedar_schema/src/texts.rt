@@ -52,7 +52,8 @@ impl FragmentText for Fragment<RawName> {
         src: &str,
         extensions: &Extensions,
     ) -> Out<(Fragment<RawName>, Vec<SchemaWarning>), CedarSchemaError>
-        ensures declares { IfOk result (λ made. DeclaresText src.now (extension_words extensions.now)
+        ensures declares { IfOk result
+            (λ made. DeclaresText src.now (extension_words extensions.now)
             (fragment_seen made.0) made.1.items) }
         ensures refused { IfRefused result (ParsingCause src.now) }
         ensures accepts { (F : Declared) (warned : List Warning)
@@ -102,7 +103,8 @@ impl FromCedarSchema for ValidatorSchema {
         extensions: &Extensions,
     ) -> Out<(ValidatorSchema, Vec<SchemaWarning>), CedarSchemaError>
         ensures denotes { IfOk result (λ made.
-            DenotesSchema src.now (extension_words extensions.now) (schema_in made.0) made.1.items) }
+            DenotesSchema src.now (extension_words extensions.now)
+            (schema_in made.0) made.1.items) }
         ensures named { IfOk result (λ made. IsNamed made.0) }
         ensures refused { IfRefused result (TextCause src.now (extension_words extensions.now)) }
         ensures accepts { (F : Declared) (warned : List Warning)

@@ -119,7 +119,8 @@ fn undefined_help(alloc: Global, name: &ConditionalName) -> Mem<String>
 
 /// The help on a reference that may stand for one name alone.
 fn alone_help(alloc: Global, name: &InternalName, kind: &str) -> Mem<String>
-    ensures { IfOk result (λ help. string_bytes help ≡ alone_help (joined (components name.now)) kind.now) }
+    ensures { IfOk result (λ help. string_bytes help
+        ≡ alone_help (joined (components name.now)) kind.now) }
 {
     Ok(format!(in alloc; "`{name}` has not been declared {kind}")?)
 }

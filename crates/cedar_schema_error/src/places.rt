@@ -72,7 +72,8 @@ fn range_of(alloc: Global, place: Option<&Loc>) -> Mem<Vec<Span>>
 
 /// The ranges of two places.
 fn both_ranges(alloc: Global, first: Option<&Loc>, second: Option<&Loc>) -> Mem<Vec<Span>>
-    ensures { IfOk result (λ spans. spans.items ≡ range (option_copied first.entry) ++ range (option_copied second.entry)) }
+    ensures { IfOk result (λ spans. spans.items ≡ range (option_copied first.entry)
+        ++ range (option_copied second.entry)) }
 {
     let mut spans = range_of(alloc, first)?;
     push_range(&mut spans, second)?;
@@ -130,7 +131,8 @@ impl TypeNotDefinedError {
 
     /// The places of the references that have one, in order.
     pub fn spans(&self, alloc: Global) -> Mem<Vec<Span>>
-        ensures { IfOk result (λ spans. spans.items ≡ ranges reference_place self.now.undefined_types) }
+        ensures { IfOk result (λ spans. spans.items
+            ≡ ranges reference_place self.now.undefined_types) }
     {
         ranges(alloc, &self.undefined_types)
     }

@@ -118,7 +118,8 @@ pub(crate) fn write_behind_commas<T: Shown, W: fmt::Write>(
     others: &[T],
     f: &mut fmt::Formatter<W>,
 ) -> fmt::Result
-    ensures { WritesOnOk W.write_str_gives f.old result (behind_commas (map T.shown others.now)) f.new }
+    ensures { WritesOnOk W.write_str_gives f.old result
+        (behind_commas (map T.shown others.now)) f.new }
 {
     for other in others {
         write!(f, ", ")?;
@@ -133,7 +134,8 @@ pub(crate) fn write_all<T: Shown, W: fmt::Write>(
     others: &[T],
     f: &mut fmt::Formatter<W>,
 ) -> fmt::Result
-    ensures { WritesOnOk W.write_str_gives f.old result (T.shown first.now ++ behind_commas (map T.shown others.now)) f.new }
+    ensures { WritesOnOk W.write_str_gives f.old result (T.shown first.now
+        ++ behind_commas (map T.shown others.now)) f.new }
 {
     first.show(f)?;
     write_behind_commas(others, f)
@@ -144,7 +146,8 @@ pub(crate) fn write_behind_first<T: Shown, W: fmt::Write>(
     others: &[T],
     f: &mut fmt::Formatter<W>,
 ) -> fmt::Result
-    ensures { WritesOnOk W.write_str_gives f.old result (behind_first (map T.shown others.now)) f.new }
+    ensures { WritesOnOk W.write_str_gives f.old result
+        (behind_first (map T.shown others.now)) f.new }
 {
     match others.split_last() {
         None => Ok(()),

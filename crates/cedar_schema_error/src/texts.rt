@@ -60,7 +60,8 @@ impl fmt::Display for ContextOrShape {
 
 /// Writes that the context of an action is no record.
 fn write_no_record_context<W: fmt::Write>(uid: &EntityUID, f: &mut fmt::Formatter<W>) -> fmt::Result
-    ensures { WritesOnOk W.write_str_gives f.old result (no_record_text (ActionContext uid.now)) f.new }
+    ensures { WritesOnOk W.write_str_gives f.old result
+        (no_record_text (ActionContext uid.now)) f.new }
 {
     write!(
         f,
@@ -70,7 +71,8 @@ fn write_no_record_context<W: fmt::Write>(uid: &EntityUID, f: &mut fmt::Formatte
 
 /// Writes that the shape of an entity type is no record.
 fn write_no_record_shape<W: fmt::Write>(ty: &EntityType, f: &mut fmt::Formatter<W>) -> fmt::Result
-    ensures { WritesOnOk W.write_str_gives f.old result (no_record_text (EntityTypeShape ty.now)) f.new }
+    ensures { WritesOnOk W.write_str_gives f.old result
+        (no_record_text (EntityTypeShape ty.now)) f.new }
 {
     write!(
         f,

@@ -13,24 +13,32 @@ ghost use Rattle.cedar_written.specs.declared.raw_name.RawName.{RawName};
 
 /// A law: a value or a text that is well formed as a schema in JSON is not refused. It does nothing when it runs.
 pub fn well_formed_json_or_refused()
-    ensures value { (d : Data) (extensions : List (List ℕ)) (F : Fragment RawName over_raw) (e : SchemaError)
-        → IsWellFormed (IsFragment d) extensions F → JsonCause (IsFragment d) (fragment_fault d) extensions e → ⊥ }
-    ensures text { (text : List ℕ) (extensions : List (List ℕ)) (F : Fragment RawName over_raw) (e : SchemaError)
-        → IsWellFormed (IsFragmentText text) extensions F → JsonCause (IsFragmentText text) (advised_fault text) extensions e → ⊥ }
+    ensures value { (d : Data) (extensions : List (List ℕ)) (F : Fragment RawName over_raw)
+        (e : SchemaError)
+        → IsWellFormed (IsFragment d) extensions F
+        → JsonCause (IsFragment d) (fragment_fault d) extensions e → ⊥ }
+    ensures text { (text : List ℕ) (extensions : List (List ℕ)) (F : Fragment RawName over_raw)
+        (e : SchemaError)
+        → IsWellFormed (IsFragmentText text) extensions F
+        → JsonCause (IsFragmentText text) (advised_fault text) extensions e → ⊥ }
 {}
 
 /// A law: the errors with which a value or a text is refused tell the same. It does nothing when it runs.
 pub fn one_json_cause()
     ensures value { (d : Data) (extensions : List (List ℕ)) (e e' : SchemaError)
-        → JsonCause (IsFragment d) (fragment_fault d) extensions e → JsonCause (IsFragment d) (fragment_fault d) extensions e' → told e ≡ told e' }
+        → JsonCause (IsFragment d) (fragment_fault d) extensions e
+        → JsonCause (IsFragment d) (fragment_fault d) extensions e' → told e ≡ told e' }
     ensures text { (text : List ℕ) (extensions : List (List ℕ)) (e e' : SchemaError)
-        → JsonCause (IsFragmentText text) (advised_fault text) extensions e → JsonCause (IsFragmentText text) (advised_fault text) extensions e' → told e ≡ told e' }
+        → JsonCause (IsFragmentText text) (advised_fault text) extensions e
+        → JsonCause (IsFragmentText text) (advised_fault text) extensions e' → told e ≡ told e' }
 {}
 
 /// A law: a value or a text denotes one schema at most. It does nothing when it runs.
 pub fn one_json_schema()
     ensures value { (d : Data) (extensions : List (List ℕ)) (S T : Schema)
-        → DenotesSchema (IsFragment d) extensions S → DenotesSchema (IsFragment d) extensions T → S ≡ T }
+        → DenotesSchema (IsFragment d) extensions S → DenotesSchema (IsFragment d) extensions T
+        → S ≡ T }
     ensures text { (text : List ℕ) (extensions : List (List ℕ)) (S T : Schema)
-        → DenotesSchema (IsFragmentText text) extensions S → DenotesSchema (IsFragmentText text) extensions T → S ≡ T }
+        → DenotesSchema (IsFragmentText text) extensions S
+        → DenotesSchema (IsFragmentText text) extensions T → S ≡ T }
 {}

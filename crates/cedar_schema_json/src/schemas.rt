@@ -56,11 +56,19 @@ impl SchemaJson for ValidatorSchema {
         json: &Value,
         extensions: &Extensions,
     ) -> Out<ValidatorSchema, SchemaError>
-        ensures denotes { IfOk result (λ schema. DenotesSchema (IsFragment (view json.now)) (extension_words extensions.now) (schema_in schema)) }
+        ensures denotes { IfOk result
+            (λ schema. DenotesSchema (IsFragment (view json.now)) (extension_words extensions.now)
+            (schema_in schema)) }
         ensures named { IfOk result IsNamed }
-        ensures refused { IfRefused result (JsonCause (IsFragment (view json.now)) (fragment_fault (view json.now)) (extension_words extensions.now)) }
-        ensures accepts { (F : Shaped Raw over_raw) → IsWellFormed (IsFragment (view json.now)) (extension_words extensions.now) F
-            → Accepts (λ schema. Denotes (world_of_fragment (fragment_seen F) (extension_words extensions.now)) (schema_in schema)) result }
+        ensures refused { IfRefused result
+            (JsonCause (IsFragment (view json.now)) (fragment_fault (view json.now))
+            (extension_words extensions.now)) }
+        ensures accepts { (F : Shaped Raw over_raw)
+            → IsWellFormed (IsFragment (view json.now)) (extension_words extensions.now) F
+            → Accepts
+            (λ schema.
+            Denotes (world_of_fragment (fragment_seen F) (extension_words extensions.now))
+            (schema_in schema)) result }
     {
         match Fragment::from_json_value(alloc, json) {
             Ok(fragment) => ValidatorSchema::from_fragment_with(alloc, fragment, extensions),
@@ -73,11 +81,19 @@ impl SchemaJson for ValidatorSchema {
         json: &str,
         extensions: &Extensions,
     ) -> Out<ValidatorSchema, SchemaError>
-        ensures denotes { IfOk result (λ schema. DenotesSchema (IsFragmentText json.now) (extension_words extensions.now) (schema_in schema)) }
+        ensures denotes { IfOk result
+            (λ schema. DenotesSchema (IsFragmentText json.now) (extension_words extensions.now)
+            (schema_in schema)) }
         ensures named { IfOk result IsNamed }
-        ensures refused { IfRefused result (JsonCause (IsFragmentText json.now) (advised_fault json.now) (extension_words extensions.now)) }
-        ensures accepts { (F : Shaped Raw over_raw) → IsWellFormed (IsFragmentText json.now) (extension_words extensions.now) F
-            → Accepts (λ schema. Denotes (world_of_fragment (fragment_seen F) (extension_words extensions.now)) (schema_in schema)) result }
+        ensures refused { IfRefused result
+            (JsonCause (IsFragmentText json.now) (advised_fault json.now)
+            (extension_words extensions.now)) }
+        ensures accepts { (F : Shaped Raw over_raw)
+            → IsWellFormed (IsFragmentText json.now) (extension_words extensions.now) F
+            → Accepts
+            (λ schema.
+            Denotes (world_of_fragment (fragment_seen F) (extension_words extensions.now))
+            (schema_in schema)) result }
     {
         match Fragment::from_json_str(alloc, json) {
             Ok(fragment) => ValidatorSchema::from_fragment_with(alloc, fragment, extensions),

@@ -63,10 +63,13 @@ fn answer_generated<K: Sink, E: Sink>(
     err: &mut E,
 ) -> Status
     ensures answers { AnswersText (Bench size) (generated size) (extension_words extensions.now)
-        (record { bytes = K.written out.old; faults = K.faults out.old }) (record { bytes = K.written out.new; faults = K.faults out.new })
-        (record { bytes = E.written err.old; faults = E.faults err.old }) (record { bytes = E.written err.new; faults = E.faults err.new })
+        (record { bytes = K.written out.old; faults = K.faults out.old })
+        (record { bytes = K.written out.new; faults = K.faults out.new })
+        (record { bytes = E.written err.old; faults = E.faults err.old })
+        (record { bytes = E.written err.new; faults = E.faults err.new })
         result }
-    ensures accepts { Accepts (Bench size) (generated size) (extension_words extensions.now) → IsAcceptance result }
+    ensures accepts { Accepts (Bench size) (generated size) (extension_words extensions.now)
+        → IsAcceptance result }
 {
     match generate(alloc, size) {
         Ok(text) => answer_text(
@@ -94,7 +97,8 @@ fn answer_source<S: Source, K: Sink, E: Sink>(
         (record { left = S.left source.old; read_faults = S.faults source.old; out = K.written out.old; out_faults = K.faults out.old; err = E.written err.old; err_faults = E.faults err.old })
         (record { left = S.left source.new; read_faults = S.faults source.new; out = K.written out.new; out_faults = K.faults out.new; err = E.written err.new; err_faults = E.faults err.new })
         result }
-    ensures accepts { AcceptsSource command (extension_words extensions.now) (S.left source.old) result }
+    ensures accepts { AcceptsSource command (extension_words extensions.now)
+        (S.left source.old) result }
 {
     match read_all(alloc, source, LONGEST_TEXT) {
         Ok(bytes) => answer_bytes(alloc, command, bytes.as_slice(), extensions, out, err),
@@ -114,8 +118,10 @@ fn answer_bytes<K: Sink, E: Sink>(
     err: &mut E,
 ) -> Status
     ensures answers { AnswersBytes command bytes.now (extension_words extensions.now)
-        (record { bytes = K.written out.old; faults = K.faults out.old }) (record { bytes = K.written out.new; faults = K.faults out.new })
-        (record { bytes = E.written err.old; faults = E.faults err.old }) (record { bytes = E.written err.new; faults = E.faults err.new })
+        (record { bytes = K.written out.old; faults = K.faults out.old })
+        (record { bytes = K.written out.new; faults = K.faults out.new })
+        (record { bytes = E.written err.old; faults = E.faults err.old })
+        (record { bytes = E.written err.new; faults = E.faults err.new })
         result }
     ensures accepts { AcceptsBytes command bytes.now (extension_words extensions.now) result }
 {

@@ -40,7 +40,9 @@ fn shadows(all_defs: &AllDefs, action: &EntityUID) -> bool
 /// The action that an action shadows, or itself where it shadows none.
 #[tactic(auto, using(crate::proofs::LookedUp::looked_up))]
 fn shadowed_or_itself<'a>(all_defs: &'a AllDefs, action: &'a EntityUID) -> &'a EntityUID
-    ensures { uid_in result.now ≡ unwrap_or (shadowed_action (names_of all_defs.now).actions (uid_in action.now)) (uid_in action.now) }
+    ensures { uid_in result.now
+        ≡ unwrap_or (shadowed_action (names_of all_defs.now).actions (uid_in action.now))
+        (uid_in action.now) }
 {
     match all_defs.action_alone(action.eid()) {
         Some(shadowed) => shadowed,
@@ -51,7 +53,9 @@ fn shadowed_or_itself<'a>(all_defs: &'a AllDefs, action: &'a EntityUID) -> &'a E
 /// Whether one action comes before another: by the actions that they shadow, then by themselves.
 #[tactic(auto, using(crate::proofs::LookedUp::looked_up))]
 fn comes_before(all_defs: &AllDefs, action: &EntityUID, other: &EntityUID) -> bool
-    ensures { result ≡ is_lt (shadowing_action_cmp (names_of all_defs.now).actions (uid_in action.now) (uid_in other.now)) }
+    ensures { result
+        ≡ is_lt (shadowing_action_cmp (names_of all_defs.now).actions (uid_in action.now)
+        (uid_in other.now)) }
 {
     let shadowed = shadowed_or_itself(all_defs, action);
     match shadowed.cmp(shadowed_or_itself(all_defs, other)) {
@@ -68,7 +72,8 @@ fn earlier<'a>(
     action: &'a EntityUID,
 ) -> Option<&'a EntityUID>
     ensures { option_map uid_in (option_copied result)
-        ≡ least_shadowing_action (names_of all_defs.now).actions (option_map uid_in (option_copied best.entry)) (uid_in action.now ∷ []) }
+        ≡ least_shadowing_action (names_of all_defs.now).actions
+        (option_map uid_in (option_copied best.entry)) (uid_in action.now ∷ []) }
 {
     if !shadows(all_defs, action) {
         return best;
@@ -88,7 +93,8 @@ fn earlier<'a>(
 /// The least action that shadows another, if there is one.
 pub(crate) fn least_action(all_defs: &AllDefs) -> Option<&EntityUID>
     ensures { option_map uid_in (option_copied result)
-        ≡ least_shadowing_action (names_of all_defs.now).actions None (names_of all_defs.now).actions }
+        ≡ least_shadowing_action (names_of all_defs.now).actions None
+        (names_of all_defs.now).actions }
 {
     let mut least = None;
     for action in all_defs.actions() {
@@ -104,7 +110,8 @@ pub(crate) fn action_shadowing(
     all_defs: &AllDefs,
     shadowing: &EntityUID,
 ) -> Mem<SchemaError>
-    requires { least_shadowing_action (names_of all_defs.now).actions None (names_of all_defs.now).actions
+    requires { least_shadowing_action (names_of all_defs.now).actions None
+        (names_of all_defs.now).actions
         ≡ Some (uid_in shadowing.now) }
     ensures { IfOk result (λ e. ShadowRefuses (names_of all_defs.now) ActionShadows (told e)) }
 {

@@ -25,7 +25,9 @@ pub trait ShadowingChecks {
     /// actions of one id. Memory is wanted only where it refuses.
     fn rfc_70_shadowing_checks(&self, alloc: Global) -> Out<(), SchemaError>
         ensures ok { IfOk result (λ _. AllPass (ShadowPasses (own self.now)) shadow_phases) }
-        ensures refused { IfRefused result (λ e. FirstRefused (ShadowPasses (own self.now)) (ShadowRefuses (own self.now)) shadow_phases (told e)) }
+        ensures refused { IfRefused result
+            (λ e. FirstRefused (ShadowPasses (own self.now))
+            (ShadowRefuses (own self.now)) shadow_phases (told e)) }
         ensures sure { AllPass (ShadowPasses (own self.now)) shadow_phases → IsOk result };
 }
 

@@ -63,7 +63,8 @@ fn earlier<'a>(
     name: &'a InternalName,
 ) -> Option<&'a InternalName>
     ensures { option_map components (option_copied result)
-        ≡ least_shadowing (names_of all_defs.now) (option_map components (option_copied best.entry)) (components name.now ∷ []) }
+        ≡ least_shadowing (names_of all_defs.now) (option_map components (option_copied best.entry))
+        (components name.now ∷ []) }
 {
     if !shadows(all_defs, name) {
         return best;
@@ -87,7 +88,8 @@ fn least_among<'a>(
     best: Option<&'a InternalName>,
 ) -> Option<&'a InternalName>
     ensures { option_map components (option_copied result)
-        ≡ least_shadowing (names_of all_defs.now) (option_map components (option_copied best.entry)) (map components names.entry) }
+        ≡ least_shadowing (names_of all_defs.now) (option_map components (option_copied best.entry))
+        (map components names.entry) }
 {
     let mut least = best;
     for name in names {
@@ -100,7 +102,9 @@ fn least_among<'a>(
 #[tactic(auto, using(crate::proofs::Shadowers::shadowers))]
 fn least_name(all_defs: &AllDefs) -> Option<&InternalName>
     ensures { option_map components (option_copied result)
-        ≡ least_shadowing (names_of all_defs.now) (least_shadowing (names_of all_defs.now) None (names_of all_defs.now).entity_types) (names_of all_defs.now).common_types }
+        ≡ least_shadowing (names_of all_defs.now)
+        (least_shadowing (names_of all_defs.now) None (names_of all_defs.now).entity_types)
+        (names_of all_defs.now).common_types }
 {
     let least = least_among(all_defs, all_defs.qualified_entity_types(), None);
     least_among(all_defs, all_defs.qualified_common_types(), least)
@@ -110,7 +114,8 @@ fn least_name(all_defs: &AllDefs) -> Option<&InternalName>
 #[tactic(auto, using(crate::proofs::LeastTypes::least_pair))]
 pub(crate) fn least_type(all_defs: &AllDefs) -> Option<&InternalName>
     ensures { MatchOption (option_copied result) (NoPair (ShadowsType (names_of all_defs.now)))
-        (λ n. IsLeastPair words_cmp (ShadowsType (names_of all_defs.now)) (basename (components n) ∷ []) (components n)) }
+        (λ n. IsLeastPair words_cmp (ShadowsType (names_of all_defs.now)) (basename (components n)
+        ∷ []) (components n)) }
 {
     least_name(all_defs)
 }
@@ -124,7 +129,8 @@ pub(crate) fn type_shadowing(
     ensures told { IfOk result (λ e. told e
         ≡ TypeShadowing (basename (components shadowing.now) ∷ []) (components shadowing.now)) }
     ensures places { IfOk result (λ e. places_of e
-        ≡ range (place_alone all_defs.now (basename_of shadowing.now)) ++ range (loc_of shadowing.now)) }
+        ≡ range (place_alone all_defs.now (basename_of shadowing.now))
+        ++ range (loc_of shadowing.now)) }
 {
     let shadowed_def = all_defs.name_alone(alloc, shadowing.basename())?;
     let shadowing_def = shadowing.dup(alloc)?;

@@ -50,7 +50,8 @@ fn walked(
     requires sorted { Sorted rows.now marks.old order.old.items }
     requires closed { (i : ℕ) → mark_at marks.old i ≡ Open → ⊥ }
     requires new { mark_at marks.old start ≡ New }
-    ensures sorted { IfOk result (λ all. IsTrue all → SortedMore rows.now order.old.items start marks.new order.new.items) }
+    ensures sorted { IfOk result (λ all. IsTrue all
+        → SortedMore rows.now order.old.items start marks.new order.new.items) }
     ensures cycle { IfOk result (λ all. all ≡ false → (i : ℕ) × Reaches (Leads rows.now) i i) }
 {
     let mut path = Vec::new(alloc);

@@ -60,7 +60,8 @@ fn searched(
     requires new { slice_index_or seen.old start false ≡ false }
     ensures searched { IfOk result (λ least. Searched rows.now seen.new least) }
     ensures has { IfOk result (λ _. slice_index_or seen.new start false ≡ true) }
-    ensures kept { IfOk result (λ _. (i : ℕ) → slice_index_or seen.old i false ≡ true → slice_index_or seen.new i false ≡ true) }
+    ensures kept { IfOk result (λ _. (i : ℕ) → slice_index_or seen.old i false ≡ true
+        → slice_index_or seen.new i false ≡ true) }
 {
     let mut found = least;
     let mut stack = Vec::new(alloc);
@@ -110,7 +111,8 @@ fn with_part(found: usize, returns: bool, least: usize) -> usize
 }
 
 fn entered(at: usize, base: usize) -> Frame
-    ensures { result ≡ record { at = at; next = 0; base = base; low = base; least = at; returns = false } }
+    ensures { result
+        ≡ record { at = at; next = 0; base = base; low = base; least = at; returns = false } }
 {
     Frame {
         at,

@@ -38,7 +38,8 @@ impl MemSink {
     /// moves at most `most` bytes, where 0 counts as 1, and fails where its number is in `fail_at`, or
     /// where the room is full and the piece isn't empty. The first call is number 1.
     pub fn new(alloc: Global, most: usize, room: usize, fail_at: Vec<u64>) -> Mem<MemSink>
-        ensures { IfOk result (λ sink. sink ≡ record { written = []; room = room; most = most; calls = 0; fail_at = fail_at.items; faults = 0 }) }
+        ensures { IfOk result (λ sink. sink
+            ≡ record { written = []; room = room; most = most; calls = 0; fail_at = fail_at.items; faults = 0 }) }
     {
         let buf = vec![in alloc; 0u8; room]?;
         Ok(MemSink {
@@ -67,14 +68,17 @@ impl Sink for MemSink {
     fn write(&mut self, piece: &[u8]) -> Result<usize, SinkFailed>
         ensures bound { WritesAtMost result piece.now }
         ensures progress { IfOk result (λ n. 0 < length piece.now → 0 < n) }
-        ensures bytes { WriteTakes (Some self.old.written) (Some self.new.written) result piece.now }
+        ensures bytes { WriteTakes (Some self.old.written)
+            (Some self.new.written) result piece.now }
         ensures cause { HasCause self.old.faults self.new.faults result }
 
         // Which calls fail, and all that a call does.
         ensures fails { IsErr result
             ↔ (Contains self.old.fail_at (one_more self.old.calls)
             ⊎ ((length self.old.written ≡ self.old.room) × (0 < length piece.now))) }
-        ensures ok { IfOk result (λ n. (n ≡ moved self.old.most (length piece.now) (self.old.room - length self.old.written))
+        ensures ok { IfOk result
+            (λ n. (n ≡ moved self.old.most (length piece.now)
+            (self.old.room - length self.old.written))
             × (self.new ≡ after_write self.old (take n piece.now))) }
         ensures err { OnErr result (self.new ≡ after_failed_write self.old) }
     {

@@ -37,7 +37,8 @@ impl MemSource {
     /// A source of these bytes. A call moves at most `most` bytes, where 0 counts as 1, and fails
     /// where its number is in `fail_at`. The first call is number 1.
     pub fn new(bytes: Vec<u8>, most: usize, fail_at: Vec<u64>) -> MemSource
-        ensures { result ≡ record { left = bytes.items; most = most; calls = 0; fail_at = fail_at.items; faults = 0 } }
+        ensures { result
+            ≡ record { left = bytes.items; most = most; calls = 0; fail_at = fail_at.items; faults = 0 } }
     {
         MemSource {
             bytes,
@@ -62,7 +63,8 @@ impl Source for MemSource {
 
         // Which calls fail, and all that a call does.
         ensures fails { IsErr result ↔ Contains self.old.fail_at (one_more self.old.calls) }
-        ensures ok { IfOk result (λ n. (n ≡ moved self.old.most (length buf.old) (length self.old.left))
+        ensures ok { IfOk result
+            (λ n. (n ≡ moved self.old.most (length buf.old) (length self.old.left))
             × (self.new ≡ after_read self.old n)
             × (buf.new ≡ take n self.old.left ++ drop n buf.old)) }
         ensures err { OnErr result ((self.new ≡ after_failed_read self.old) × (buf.new ≡ buf.old)) }

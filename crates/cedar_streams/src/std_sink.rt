@@ -32,7 +32,8 @@ impl<W: Writer> StdSink<W> {
 
     /// The writer, as to flush it.
     pub fn get_mut(&mut self) -> &mut W
-        ensures* writes_back { sem 𝓛 (Lends (the_row W.row) W.row self.entry result (sink_with_inner self.old)) }
+        ensures* writes_back { sem 𝓛
+            (Lends (the_row W.row) W.row self.entry result (sink_with_inner self.old)) }
         ensures value { result.now ≡ sink_inner self.old }
     {
         &mut self.inner
@@ -59,10 +60,13 @@ impl<W: Writer> Sink for StdSink<W> {
         ensures cause { HasCause (sink_faults self.old) (sink_faults self.new) result }
 
         // One write to the writer. It failed, or took nothing of some bytes, where this one failed.
-        ensures written { WriteAppends (W.held (sink_inner self.old)) (W.held (sink_inner self.new)) result piece.now }
-        ensures taken { IfOk result (λ n. W.answers (sink_inner self.old) (sink_inner self.new) (Some n)) }
+        ensures written { WriteAppends (W.held (sink_inner self.old))
+            (W.held (sink_inner self.new)) result piece.now }
+        ensures taken { IfOk result
+            (λ n. W.answers (sink_inner self.old) (sink_inner self.new) (Some n)) }
         ensures failed { OnErr result (W.answers (sink_inner self.old) (sink_inner self.new) None
-            ⊎ ((0 < length piece.now) × W.answers (sink_inner self.old) (sink_inner self.new) (Some 0))) }
+            ⊎ ((0 < length piece.now)
+            × W.answers (sink_inner self.old) (sink_inner self.new) (Some 0))) }
         ensures ok { OnOk result (sink_faults self.new ≡ sink_faults self.old) }
         ensures err { OnErr result (sink_faults self.new ≡ one_more (sink_faults self.old)) }
     {

@@ -40,8 +40,10 @@ impl<R: Reader> Source for StdSource<R> {
         ensures cause { HasCause (source_faults self.old) (source_faults self.new) result }
 
         // One read of the reader, which succeeded or failed as this one did.
-        ensures read { ReadConsumes (R.left (source_inner self.old)) (R.left (source_inner self.new)) result buf.new }
-        ensures answered { Answered R.answers (source_inner self.old) (source_inner self.new) result }
+        ensures read { ReadConsumes (R.left (source_inner self.old))
+            (R.left (source_inner self.new)) result buf.new }
+        ensures answered { Answered R.answers (source_inner self.old)
+            (source_inner self.new) result }
         ensures ok { OnOk result (source_faults self.new ≡ source_faults self.old) }
         ensures err { OnErr result (source_faults self.new ≡ one_more (source_faults self.old)) }
     {

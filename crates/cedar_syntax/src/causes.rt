@@ -22,7 +22,8 @@ fn stray_kind(
     front: &[Lexeme<'_>],
     token: &Lexeme<'_>,
 ) -> Mem<ParseErrorKind>
-    ensures { IfOk result (StraysAs (map (lexeme_token source.now) front.now) (lexeme_token source.now token.now)) }
+    ensures { IfOk result
+        (StraysAs (map (lexeme_token source.now) front.now) (lexeme_token source.now token.now)) }
 {
     if let Some(error) = rule_error(alloc, source, front, token)? {
         return Ok(ParseErrorKind::User(error));

@@ -31,7 +31,8 @@ pub fn tokens(alloc: Global, text: &str) -> Out<Vec<Token>, ParseError>
     ensures accepts { (ts : List Token) → Lexes text.now ts
         → MatchResult result (λ found. found.items ≡ ts) (λ e. e ≡ OutOfMemory) }
     ensures refuses { (place : ℕ) → NoTokenAt text.now place
-        → MatchResult result (λ _. ⊥) (λ e. (e ≡ OutOfMemory) ⊎ (e ≡ RefusedWith (record { kind = InvalidToken place; src = text.now }))) }
+        → MatchResult result (λ _. ⊥) (λ e. (e ≡ OutOfMemory)
+        ⊎ (e ≡ RefusedWith (record { kind = InvalidToken place; src = text.now }))) }
 {
     match cedar_tokens::tokens(alloc, text) {
         Ok(found) => Ok(found),

@@ -16,7 +16,8 @@ use std::alloc::Global;
 /// The schema that tokens of this source are, or where they stop being one.
 pub fn read_tokens(alloc: Global, source: &Text, lexemes: &[Lexeme<'_>]) -> Out<Schema, Fault>
     ensures answers { TellsReading (map (lexeme_token source.now) lexemes.now) result }
-    ensures accepts { (s : SchemaTree) → Reads (map (lexeme_token source.now) lexemes.now) s → AcceptsAs s result }
+    ensures accepts { (s : SchemaTree) → Reads (map (lexeme_token source.now) lexemes.now) s
+        → AcceptsAs s result }
 {
     reading_finds();
     parse(alloc, source, lexemes)
@@ -25,7 +26,8 @@ pub fn read_tokens(alloc: Global, source: &Text, lexemes: &[Lexeme<'_>]) -> Out<
 /// Whether some schema begins with these tokens and the next one behind them.
 pub fn may_follow(alloc: Global, source: &Text, front: &[Lexeme<'_>], next: Lexeme<'_>) -> Mem<bool>
     ensures { IfOk result (λ may. IsTrue may
-        ↔ Viable (map (lexeme_token source.now) front.now ++ lexeme_token source.now next.entry ∷ [])) }
+        ↔ Viable (map (lexeme_token source.now) front.now ++ lexeme_token source.now next.entry
+        ∷ [])) }
 {
     grammar_viable();
     let mut lexemes = Vec::new(alloc);

@@ -72,7 +72,8 @@ fn key_in<'a>(tokens: &[Lexeme<'a>], word: &str) -> Option<Lexeme<'a>>
 /// The key that the token repeats, in the annotations at whose end it stands behind an `@`.
 pub fn repeated_key<'a>(front: &[Lexeme<'a>], token: &Lexeme<'_>) -> Option<Lexeme<'a>>
     ensures { (source : List ℕ)
-        → TellsRepeat (map (lexeme_token source) front.now) (lexeme_token source token.now) (option_map (lexeme_token source) result) }
+        → TellsRepeat (map (lexeme_token source) front.now) (lexeme_token source token.now)
+        (option_map (lexeme_token source) result) }
 {
     if !is_word(token) || !cedar_text::is_word(token.text) {
         return None;

@@ -18,7 +18,8 @@ use std::alloc::Global;
 /// Whether the token is the `]` of an empty list behind `enum`.
 fn closes_empty_enum(front: &[Lexeme<'_>], token: &Lexeme<'_>) -> bool
     ensures { (source : List ℕ)
-        → IsTrue result ↔ ClosesEmptyEnum (map (lexeme_token source) front.now) (lexeme_token source token.now) }
+        → IsTrue result
+        ↔ ClosesEmptyEnum (map (lexeme_token source) front.now) (lexeme_token source token.now) }
 {
     if !is_mark(token, "]") {
         return false;
@@ -53,7 +54,9 @@ fn bad_escape(
     front: &[Lexeme<'_>],
     token: &Lexeme<'_>,
 ) -> Mem<Option<BadEscape>>
-    ensures { IfOk result (TellsEscape (map (lexeme_token source.now) front.now) (lexeme_token source.now token.now)) }
+    ensures { IfOk result
+        (TellsEscape (map (lexeme_token source.now) front.now)
+        (lexeme_token source.now token.now)) }
 {
     if !is_literal(token) {
         return Ok(None);
@@ -80,7 +83,8 @@ fn bad_escape(
 /// Whether the token is a reserved word where an identifier could stand.
 fn is_reserved(alloc: Global, source: &Text, front: &[Lexeme<'_>], token: &Lexeme<'_>) -> Mem<bool>
     ensures { IfOk result (λ is. IsTrue is
-        ↔ IsReservedWord (map (lexeme_token source.now) front.now) (lexeme_token source.now token.now)) }
+        ↔ IsReservedWord (map (lexeme_token source.now) front.now)
+        (lexeme_token source.now token.now)) }
 {
     if !is_word(token) || !is_reserved_word(token.text) {
         return Ok(false);
@@ -100,7 +104,8 @@ fn is_reserved(alloc: Global, source: &Text, front: &[Lexeme<'_>], token: &Lexem
 /// The error of a token that repeats a key.
 fn repeat_error(alloc: Global, front: &[Lexeme<'_>], token: &Lexeme<'_>) -> Mem<Option<UserError>>
     ensures { IfOk result (λ error. (source : List ℕ)
-        → TellsRepeatError (map (lexeme_token source) front.now) (lexeme_token source token.now) error) }
+        → TellsRepeatError (map (lexeme_token source) front.now)
+        (lexeme_token source token.now) error) }
 {
     let Some(first) = repeated_key(front, token) else {
         return Ok(None);
@@ -118,7 +123,9 @@ fn reserved_error(
     front: &[Lexeme<'_>],
     token: &Lexeme<'_>,
 ) -> Mem<Option<UserError>>
-    ensures { IfOk result (TellsReservedError (map (lexeme_token source.now) front.now) (lexeme_token source.now token.now)) }
+    ensures { IfOk result
+        (TellsReservedError (map (lexeme_token source.now) front.now)
+        (lexeme_token source.now token.now)) }
 {
     if !is_reserved(alloc, source, front, token)? {
         return Ok(None);
@@ -136,7 +143,8 @@ pub fn rule_error(
     front: &[Lexeme<'_>],
     token: &Lexeme<'_>,
 ) -> Mem<Option<UserError>>
-    ensures { IfOk result (TellsRule (map (lexeme_token source.now) front.now) (lexeme_token source.now token.now)) }
+    ensures { IfOk result
+        (TellsRule (map (lexeme_token source.now) front.now) (lexeme_token source.now token.now)) }
 {
     if closes_empty_enum(front, token) {
         return Ok(Some(UserError::EmptyList(span(token))));

@@ -49,7 +49,8 @@ impl Loc {
     pub fn snippet(&self) -> Option<&str>
         ensures { MatchOption result
             (¬ (IsTextRange self.now.src self.now.start self.now.end))
-            (λ piece. IsTextRange self.now.src self.now.start self.now.end × (piece.now ≡ slice_range self.now.src self.now.start self.now.end)) }
+            (λ piece. IsTextRange self.now.src self.now.start self.now.end
+            × (piece.now ≡ slice_range self.now.src self.now.start self.now.end)) }
     {
         let text = self.src.as_str();
         let in_order = self.start <= self.end;

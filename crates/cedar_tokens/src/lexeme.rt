@@ -29,7 +29,8 @@ impl<'a> Dup for Lexeme<'a> {
 /// The tokens of a text, each with its part of the text.
 pub fn lexemes<'a>(alloc: Global, source: &'a str, tokens: &[Token]) -> Mem<Vec<Lexeme<'a>>>
     requires { All (StandsIn source.now) tokens.now }
-    ensures { IfOk result (λ found. map (lexeme_token source.now) found.items ≡ map (text_token source.now) tokens.now) }
+    ensures { IfOk result (λ found. map (lexeme_token source.now) found.items
+        ≡ map (text_token source.now) tokens.now) }
 {
     let mut found = Vec::with_capacity(alloc, tokens.len())?;
     for token in tokens {

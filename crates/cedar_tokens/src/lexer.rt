@@ -32,7 +32,8 @@ pub fn tokens(alloc: Global, text: &str) -> Out<Vec<Token>, NoToken>
     ensures accepts { (ts : List Token) → Lexes text.now ts
         → MatchResult result (λ found. found.items ≡ ts) (λ e. e ≡ OutOfMemory) }
     ensures refuses { (place : ℕ) → NoTokenAt text.now place
-        → MatchResult result (λ _. ⊥) (λ e. (e ≡ OutOfMemory) ⊎ (e ≡ RefusedWith (record { location = place }))) }
+        → MatchResult result (λ _. ⊥) (λ e. (e ≡ OutOfMemory)
+        ⊎ (e ≡ RefusedWith (record { location = place }))) }
 {
     let mut found = Vec::new(alloc);
     let mut rest = text;

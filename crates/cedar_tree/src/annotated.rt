@@ -89,7 +89,8 @@ pub fn deduplicate_annotations<T: Drop>(
 ) -> Out<Annotated<T>, UserError>
     ensures item { IfOk result (λ annotated. annotated.item ≡ item) }
     ensures once { IfOk result (λ _. repeat_in annotations.items ≡ None) }
-    ensures annotations { IfOk result (λ annotated. annotation_entries annotated.annotations ≡ meaning annotations.items) }
+    ensures annotations { IfOk result (λ annotated. annotation_entries annotated.annotations
+        ≡ meaning annotations.items) }
     ensures refused { IfRefused result (λ fault. repeat_in annotations.items ≡ Some fault) }
 {
     let annotations = by_key(alloc, annotations)?;
@@ -124,7 +125,8 @@ fn put_annotation(
     ensures noted { IfOk result (λ _. Puts any_cmp places.old places.new
         annotation.node.0.node (span_of annotation.node.0.loc)) }
     ensures means { IfOk result (λ _. annotation_entries unique.new
-        ≡ insert_entry any_cmp (annotation_entries unique.old) (meant annotation).0 (meant annotation).1) }
+        ≡ insert_entry any_cmp (annotation_entries unique.old) (meant annotation).0
+        (meant annotation).1) }
     ensures refused { IfRefused result (λ fault. option_map
         (λ first. DuplicateAnnotations annotation.node.0.node first (span_of annotation.node.0.loc))
         (get any_cmp places.old annotation.node.0.node) ≡ Some fault) }
@@ -143,7 +145,10 @@ fn put_annotation(
 fn note(places: &mut Map<AnyId, Span>, key: AnyId, place: Span) -> Out<(), UserError>
     ensures new { IfOk result (λ _. None ≡ get any_cmp places.old key) }
     ensures puts { IfOk result (λ _. Puts any_cmp places.old places.new key place) }
-    ensures refused { IfRefused result (λ fault. option_map (λ first. DuplicateAnnotations key first place) (get any_cmp places.old key) ≡ Some fault) }
+    ensures refused { IfRefused result
+        (λ fault.
+        option_map (λ first. DuplicateAnnotations key first place) (get any_cmp places.old key)
+        ≡ Some fault) }
 {
     if let Some(first) = places.get(&key) {
         return Err(Failure::Refused(UserError::DuplicateAnnotations(key, *first, place)));
@@ -160,7 +165,9 @@ fn put_value(
     value: Option<Node<Text>>,
     loc: Loc,
 ) -> Mem<()>
-    ensures { IfOk result (λ _. annotation_entries unique.new ≡ insert_entry any_cmp (annotation_entries unique.old) key (record { val = value_text value; loc = Some loc })) }
+    ensures { IfOk result (λ _. annotation_entries unique.new
+        ≡ insert_entry any_cmp (annotation_entries unique.old) key
+        (record { val = value_text value; loc = Some loc })) }
 {
     let val = value_text(alloc, value)?;
     let meant = Annotation {

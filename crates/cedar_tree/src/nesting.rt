@@ -54,7 +54,9 @@ fn deep_type(ty: &Node<Type>) -> Option<Span>
 
 /// The place of the record of these attributes, if it nests too deep.
 fn deep_record(attrs: &Node<Items<Node<Annotated<AttrDecl>>>>) -> Option<Span>
-    ensures { result ≡ deep_place (record { node = Record (attrs_tree attrs.now.node); loc = attrs.now.loc } ∷ []) }
+    ensures { result
+        ≡ deep_place (record { node = Record (attrs_tree attrs.now.node); loc = attrs.now.loc }
+        ∷ []) }
 {
     if any_nests_past(&attrs.node, NEST_AT_MOST - 1) {
         Some(attrs.loc.span())
@@ -141,7 +143,8 @@ fn deep_in_decl(decl: &Declaration) -> Option<Span>
 
 /// The place of the first type of a namespace that nests too deep.
 fn deep_in_namespace(namespace: &Annotated<Namespace>) -> Option<Span>
-    ensures { result ≡ deep_place (types_of_namespace (annotated_tree namespace_tree namespace.now)) }
+    ensures { result
+        ≡ deep_place (types_of_namespace (annotated_tree namespace_tree namespace.now)) }
 {
     for decl in namespace.item.decls.as_slice() {
         if let Some(place) = deep_in_decl(&decl.item.node) {

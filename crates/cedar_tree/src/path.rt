@@ -73,7 +73,8 @@ impl Path {
     /// The identifiers, outermost first, the basename last, each at the place of the path. It fails only for want of
     /// memory.
     pub fn into_iter(self, alloc: Global) -> Mem<PathIntoIter>
-        ensures { IfOk result (λ ids. into_iter_items ids ≡ ids_at (path_loc self) (path_ids self)) }
+        ensures { IfOk result (λ ids. into_iter_items ids
+            ≡ ids_at (path_loc self) (path_ids self)) }
     {
         let Path {
             basename,

@@ -178,7 +178,8 @@ impl ResolvedType {
 impl Attributes {
     /// The attributes of the list. Of several pairs of one name, the last counts. It fails only for want of memory.
     pub fn with_attributes(alloc: Global, list: Vec<(Text, AttributeType)>) -> Mem<Attributes>
-        ensures values { IfOk result (λ attrs. (name : List ℕ) → get_text (entries attrs) name ≡ last_value (is_text name) list.items) }
+        ensures values { IfOk result (λ attrs. (name : List ℕ) → get_text (entries attrs) name
+            ≡ last_value (is_text name) list.items) }
         ensures ordered { IfOk result (λ attrs. IsSortedMap (slice_cmp nat_cmp) (entries attrs)) }
     {
         let map = Map::from_pairs(alloc, list)?;
@@ -191,7 +192,8 @@ impl Attributes {
         alloc: Global,
         list: Vec<(Text, ResolvedType)>,
     ) -> Mem<Attributes>
-        ensures values { IfOk result (λ attrs. (name : List ℕ) → get_text (entries attrs) name ≡ last_value (is_text name) (map_values required list.items)) }
+        ensures values { IfOk result (λ attrs. (name : List ℕ) → get_text (entries attrs) name
+            ≡ last_value (is_text name) (map_values required list.items)) }
         ensures ordered { IfOk result (λ attrs. IsSortedMap (slice_cmp nat_cmp) (entries attrs)) }
     {
         let mut map = Map::new(alloc);

@@ -70,7 +70,8 @@ impl ValueMap {
     /// Puts the value at the name, in place of one that was there. It fails only for want of memory, and then changes
     /// nothing.
     pub fn insert(&mut self, key: Text, v: CedarValueJson) -> Mem<()>
-        ensures ok { OnOk result (members self.new ≡ insert_entry (slice_cmp nat_cmp) (members self.old) key v) }
+        ensures ok { OnOk result (members self.new
+            ≡ insert_entry (slice_cmp nat_cmp) (members self.old) key v) }
         ensures puts { OnOk result ((name : List ℕ) → get_text (members self.new) name
             ≡ cond (is_text key name) (Some v) (get_text (members self.old) name)) }
         ensures err { OnErr result (self.new ≡ self.old) }

@@ -129,7 +129,8 @@ fn gather_in_attributes(
     names: &mut Set<InternalName>,
 ) -> Mem<()>
     ensures { OnOk result (names.new
-        ≡ with_references (names_of all_defs.now) names.old (references_of_attributes attributes.now)) }
+        ≡ with_references (names_of all_defs.now) names.old
+        (references_of_attributes attributes.now)) }
 {
     for (_, attribute) in attributes.iter() {
         gather_in_attribute(alloc, all_defs, attribute, names)?;
@@ -146,7 +147,8 @@ fn gather_in_attribute(
     names: &mut Set<InternalName>,
 ) -> Mem<()>
     ensures { OnOk result (names.new
-        ≡ with_references (names_of all_defs.now) names.old (references_of_attribute attribute.now)) }
+        ≡ with_references (names_of all_defs.now) names.old
+        (references_of_attribute attribute.now)) }
 {
     gather_in_type(alloc, all_defs, &attribute.ty, names)
 }

@@ -61,10 +61,18 @@ pub fn unfold_all<T: TypeNode, L: Ledger>(
     extensions: &Extensions,
     steps: &mut Steps<L>,
 ) -> Out<Unfolded, SchemaError>
-    ensures done { IfOk result (λ u. Unfoldable (job_of (by_name T.written defs.now) (by_place T.written uses.now) extensions.now)
-        × IsUnfolded (job_of (by_name T.written defs.now) (by_place T.written uses.now) extensions.now) (by_name resolved u.common) (by_place resolved u.uses)) }
-    ensures refused { IfRefused result (λ e. WhyNotUnfoldable (job_of (by_name T.written defs.now) (by_place T.written uses.now) extensions.now) (told e)) }
-    ensures counts { steps.new ≤ steps.old + 2 * node_count (by_name T.written defs.now) (by_place T.written uses.now) }
+    ensures done { IfOk result
+        (λ u. Unfoldable
+        (job_of (by_name T.written defs.now) (by_place T.written uses.now) extensions.now)
+        × IsUnfolded
+        (job_of (by_name T.written defs.now) (by_place T.written uses.now) extensions.now)
+        (by_name resolved u.common) (by_place resolved u.uses)) }
+    ensures refused { IfRefused result
+        (λ e. WhyNotUnfoldable
+        (job_of (by_name T.written defs.now) (by_place T.written uses.now) extensions.now)
+        (told e)) }
+    ensures counts { steps.new ≤ steps.old + 2 * node_count (by_name T.written defs.now)
+        (by_place T.written uses.now) }
 {
     let keys = copied_keys(alloc, defs)?;
     let order = ordered(alloc, defs, keys.as_slice(), extensions, steps)?;
@@ -85,9 +93,12 @@ fn ordered<T: TypeNode, L: Ledger>(
 ) -> Out<Vec<usize>, SchemaError>
     requires keys { keys.now ≡ keys_of defs.now }
     requires sorted { IsStrictlySortedBy internal_cmp keys.now }
-    ensures order { IfOk result (λ order. IsOrder (definition_rows (by_name T.written defs.now)) order.items) }
-    ensures passes { IfOk result (λ _. DefinitionsPass (by_name T.written defs.now) extensions.now) }
-    ensures refused { IfRefused result (λ e. DefinitionsRefuse (by_name T.written defs.now) extensions.now (told e)) }
+    ensures order { IfOk result
+        (λ order. IsOrder (definition_rows (by_name T.written defs.now)) order.items) }
+    ensures passes { IfOk result
+        (λ _. DefinitionsPass (by_name T.written defs.now) extensions.now) }
+    ensures refused { IfRefused result
+        (λ e. DefinitionsRefuse (by_name T.written defs.now) extensions.now (told e)) }
     ensures counts { steps.new ≤ steps.old + all_nodes (by_name T.written defs.now) }
 {
     let mut fault = None;
@@ -105,7 +116,8 @@ fn judged(
 ) -> Out<Vec<usize>, SchemaError>
     requires { IsCycleWithin (length keys.now) sorting }
     ensures order { IfOk result (λ order. (sorting ≡ Order order) × (noted fault ≡ None)) }
-    ensures refused { IfRefused result (λ e. TellsSorting (names_of keys.now) sorting (noted fault) (told e)) }
+    ensures refused { IfRefused result
+        (λ e. TellsSorting (names_of keys.now) sorting (noted fault) (told e)) }
 {
     match sorting {
         Sorting::Cycle(least) => Err(Failure::Refused(cycle(alloc, &keys[least])?)),
@@ -131,8 +143,12 @@ fn common_types<T>(
     defs: &Map<InternalName, T>,
     table: &Map<InternalName, Option<Nested>>,
 ) -> Out<Map<InternalName, Type>, SchemaError>
-    ensures types { IfOk result (λ made. AllZip (HasType (tabled table.now)) (names_of (keys_of defs.now)) (by_name resolved made)) }
-    ensures refused { IfRefused result (λ e. FirstRefused (HasSome (tabled table.now)) (LacksType (tabled table.now)) (names_of (keys_of defs.now)) (told e)) }
+    ensures types { IfOk result
+        (λ made. AllZip (HasType (tabled table.now)) (names_of (keys_of defs.now))
+        (by_name resolved made)) }
+    ensures refused { IfRefused result
+        (λ e. FirstRefused (HasSome (tabled table.now)) (LacksType (tabled table.now))
+        (names_of (keys_of defs.now)) (told e)) }
 {
     let mut made = Map::new(alloc);
     for (key, _) in defs.iter() {
@@ -150,7 +166,8 @@ fn found_type<'a>(
     table: &'a Map<InternalName, Option<Nested>>,
     name: &InternalName,
 ) -> Option<&'a Type>
-    ensures { option_map resolved (option_copied result) ≡ common_of (tabled table.now (components name.now)) }
+    ensures { option_map resolved (option_copied result)
+        ≡ common_of (tabled table.now (components name.now)) }
 {
     match table.get(name) {
         Some(Some(found)) => Some(&found.ty),

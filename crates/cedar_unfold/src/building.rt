@@ -44,7 +44,8 @@ impl Nested {
     /// An extension type.
     #[tactic(auto, using(crate::proofs::ResolvedTypes::resolved_types))]
     pub(crate) fn extension(alloc: Global, id: &UnreservedId) -> Mem<Nested>
-        ensures { IfOk result (λ found. resolved found.ty ≡ resolved_types.Extension (unreserved_word id.now ∷ [])) }
+        ensures { IfOk result (λ found. resolved found.ty
+            ≡ resolved_types.Extension (unreserved_word id.now ∷ [])) }
     {
         let name = Name::unqualified_name(alloc, id.dup(alloc)?);
         Ok(Nested::flat(Type::extension(name)))
@@ -53,7 +54,8 @@ impl Nested {
     /// The type of sets of elements of this type, nothing where it nests too deep.
     #[tactic(auto, using(crate::proofs::ResolvedTypes::resolved_types))]
     pub(crate) fn set(alloc: Global, element: Nested) -> Mem<Option<Nested>>
-        ensures { IfOk result (λ found. found_type found ≡ within (resolved_types.Set (resolved element.ty))) }
+        ensures { IfOk result (λ found. found_type found
+            ≡ within (resolved_types.Set (resolved element.ty))) }
     {
         if element.depth >= DEEPEST {
             return Ok(None);
@@ -73,7 +75,8 @@ impl Nested {
         depth: usize,
     ) -> Mem<Option<Nested>>
         requires { depth ≡ greatest_nest (resolved_map attributes) }
-        ensures { IfOk result (λ found. found_type found ≡ within (resolved_types.Record (resolved_map attributes) false)) }
+        ensures { IfOk result (λ found. found_type found
+            ≡ within (resolved_types.Record (resolved_map attributes) false)) }
     {
         if depth >= DEEPEST {
             return Ok(None);

@@ -14,7 +14,8 @@ pub(crate) fn next_entry<'a, V>(
     map: &'a Map<Text, V>,
     after: Option<&Text>,
 ) -> Option<(&'a Text, &'a V)>
-    ensures next { option_map (λ e. (e.0.now, e.1.now)) result ≡ next_entry (option_copied after.entry) map.now }
+    ensures next { option_map (λ e. (e.0.now, e.1.now)) result
+        ≡ next_entry (option_copied after.entry) map.now }
     ensures ordered { IsSortedMap (slice_cmp nat_cmp) map.now }
 {
     let start = match after {

@@ -73,7 +73,9 @@ pub(crate) fn note_extension(
     fault: &mut Option<Fault>,
 ) -> Mem<()>
     ensures { OnOk result (noted fault.new ≡ option_or (noted fault.old)
-        (first_of (extension_fault (has_word (extension_words extensions.now) (unreserved_word id.now)) (unreserved_word id.now)))) }
+        (first_of
+        (extension_fault (has_word (extension_words extensions.now) (unreserved_word id.now))
+        (unreserved_word id.now)))) }
 {
     if fault.is_none() && !extensions.contains(id.as_ref()) {
         *fault = Some(Fault::UnknownExtension(id.dup(alloc)?));

@@ -31,9 +31,11 @@ pub(crate) fn fill<T: TypeNode, L: Ledger>(
     requires keys { keys.now ≡ keys_of defs.now }
     requires sorted { IsStrictlySortedBy internal_cmp keys.now }
     requires order { IsOrder (definition_rows (by_name T.written defs.now)) order.now }
-    ensures full { IfOk result (λ table. (is_extension : List ℕ → Bool) → AreFaultless (full_meanings (by_name T.written defs.now) is_extension)
+    ensures full { IfOk result (λ table. (is_extension : List ℕ → Bool)
+        → AreFaultless (full_meanings (by_name T.written defs.now) is_extension)
         → IsFull (full_meanings (by_name T.written defs.now) is_extension) (tabled table)) }
-    ensures counts { steps.new ≤ steps.old + sum_by (nodes_at (by_name T.written defs.now)) order.now }
+    ensures counts { steps.new ≤ steps.old + sum_by
+        (nodes_at (by_name T.written defs.now)) order.now }
 {
     let mut table = Map::new(alloc);
     for at in order {

@@ -9,5 +9,6 @@ ghost use Rattle.cedar_unfold.specs.Written.{Written};
 /// runs.
 #[tactic(auto, using(crate::proofs::OneUnfolding::one_type))]
 pub fn one_unfolding<N>()
-    ensures { (m : Meanings N) (t : Written N) (S T : Resolved) → Unfolds m t S → Unfolds m t T → S ≡ T }
+    ensures { (m : Meanings N) (t : Written N) (S T : Resolved) → Unfolds m t S → Unfolds m t T
+        → S ≡ T }
 {}

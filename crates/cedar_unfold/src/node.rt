@@ -56,5 +56,6 @@ pub trait TypeNode: Sized {
         requires { IsRecord (written self.now) }
         ensures next { option_map (λ a. (a.0.now, written a.1.now, a.2)) result
             ≡ next_attribute (option_copied after.entry) (attributes_of (written self.now)) }
-        ensures ordered { IsStrictlySortedBy (slice_cmp nat_cmp) (labels (attributes_of (written self.now))) };
+        ensures ordered { IsStrictlySortedBy (slice_cmp nat_cmp)
+            (labels (attributes_of (written self.now))) };
 }

@@ -34,9 +34,13 @@ pub(crate) fn survey_definitions<T: TypeNode, L: Ledger>(
     steps: &mut Steps<L>,
 ) -> Mem<Vec<Items<usize>>>
     requires { IsStrictlySortedBy internal_cmp keys.now }
-    ensures rows { IfOk result (λ rows. rows.items ≡ written_rows (names_of keys.now) (by_name T.written defs.now)) }
+    ensures rows { IfOk result (λ rows. rows.items
+        ≡ written_rows (names_of keys.now) (by_name T.written defs.now)) }
     ensures fault { OnOk result (noted fault.new ≡ option_or (noted fault.old)
-        (first_of (flat_map (λ e. faults_by Some (is_among (names_of keys.now)) (has_word (extension_words extensions.now)) e.1) (by_name T.written defs.now)))) }
+        (first_of
+        (flat_map
+        (λ e. faults_by Some (is_among (names_of keys.now))
+        (has_word (extension_words extensions.now)) e.1) (by_name T.written defs.now)))) }
     ensures counts { steps.new ≤ steps.old + all_nodes (by_name T.written defs.now) }
 {
     let mut rows = Vec::new(alloc);
@@ -63,7 +67,9 @@ pub(crate) fn survey<T: TypeNode, L: Ledger>(
     requires { IsStrictlySortedBy internal_cmp keys.now }
     ensures row { OnOk result (row.new ≡ row.old ++ row_of (names_of keys.now) (T.written ty.now)) }
     ensures fault { OnOk result (noted fault.new ≡ option_or (noted fault.old)
-        (first_of (faults_by Some (is_among (names_of keys.now)) (has_word (extension_words extensions.now)) (T.written ty.now)))) }
+        (first_of
+        (faults_by Some (is_among (names_of keys.now)) (has_word (extension_words extensions.now))
+        (T.written ty.now)))) }
     ensures counts { steps.new ≤ steps.old + nodes (T.written ty.now) }
 {
     match ty.look(steps) {
@@ -99,10 +105,15 @@ fn survey_record<T: TypeNode, L: Ledger>(
 ) -> Mem<()>
     requires is_record { IsRecord (T.written record_type.now) }
     requires sorted { IsStrictlySortedBy internal_cmp keys.now }
-    ensures row { OnOk result (row.new ≡ row.old ++ attribute_row_of (names_of keys.now) (attributes_of (T.written record_type.now))) }
+    ensures row { OnOk result (row.new
+        ≡ row.old
+        ++ attribute_row_of (names_of keys.now) (attributes_of (T.written record_type.now))) }
     ensures fault { OnOk result (noted fault.new ≡ option_or (noted fault.old)
-        (first_of (attribute_faults_by Some (is_among (names_of keys.now)) (has_word (extension_words extensions.now)) (attributes_of (T.written record_type.now))))) }
-    ensures counts { steps.new ≤ steps.old + attribute_nodes (attributes_of (T.written record_type.now)) }
+        (first_of
+        (attribute_faults_by Some (is_among (names_of keys.now))
+        (has_word (extension_words extensions.now)) (attributes_of (T.written record_type.now))))) }
+    ensures counts { steps.new ≤ steps.old + attribute_nodes
+        (attributes_of (T.written record_type.now)) }
 {
     let mut after = None;
     while let Some((name, part, _)) = record_type.next_attribute(after) {

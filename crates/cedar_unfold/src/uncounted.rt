@@ -24,9 +24,16 @@ pub fn unfold_uncounted<T: TypeNode>(
     uses: &Map<UsePlace, T>,
     extensions: &Extensions,
 ) -> Out<Unfolded, SchemaError>
-    ensures done { IfOk result (λ u. Unfoldable (job_of (by_name T.written defs.now) (by_place T.written uses.now) extensions.now)
-        × IsUnfolded (job_of (by_name T.written defs.now) (by_place T.written uses.now) extensions.now) (by_name resolved u.common) (by_place resolved u.uses)) }
-    ensures refused { IfRefused result (λ e. WhyNotUnfoldable (job_of (by_name T.written defs.now) (by_place T.written uses.now) extensions.now) (told e)) }
+    ensures done { IfOk result
+        (λ u. Unfoldable
+        (job_of (by_name T.written defs.now) (by_place T.written uses.now) extensions.now)
+        × IsUnfolded
+        (job_of (by_name T.written defs.now) (by_place T.written uses.now) extensions.now)
+        (by_name resolved u.common) (by_place resolved u.uses)) }
+    ensures refused { IfRefused result
+        (λ e. WhyNotUnfoldable
+        (job_of (by_name T.written defs.now) (by_place T.written uses.now) extensions.now)
+        (told e)) }
 {
     unfold_in::<T, Brand>(alloc, defs, uses, extensions, Blank::new(1))
 }
@@ -42,9 +49,16 @@ fn unfold_in<T: TypeNode, L: Ledger>(
     requires name { blank.name ≡ L.name }
     requires parts { blank.parts ≡ L.parts }
     requires some { 0 < blank.parts }
-    ensures done { IfOk result (λ u. Unfoldable (job_of (by_name T.written defs.now) (by_place T.written uses.now) extensions.now)
-        × IsUnfolded (job_of (by_name T.written defs.now) (by_place T.written uses.now) extensions.now) (by_name resolved u.common) (by_place resolved u.uses)) }
-    ensures refused { IfRefused result (λ e. WhyNotUnfoldable (job_of (by_name T.written defs.now) (by_place T.written uses.now) extensions.now) (told e)) }
+    ensures done { IfOk result
+        (λ u. Unfoldable
+        (job_of (by_name T.written defs.now) (by_place T.written uses.now) extensions.now)
+        × IsUnfolded
+        (job_of (by_name T.written defs.now) (by_place T.written uses.now) extensions.now)
+        (by_name resolved u.common) (by_place resolved u.uses)) }
+    ensures refused { IfRefused result
+        (λ e. WhyNotUnfoldable
+        (job_of (by_name T.written defs.now) (by_place T.written uses.now) extensions.now)
+        (told e)) }
 {
     let mut steps = Steps::<L>::start(blank);
     unfold_all(alloc, defs, uses, extensions, &mut steps)

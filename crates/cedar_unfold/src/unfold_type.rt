@@ -23,7 +23,8 @@ pub(crate) fn unfolded<T: TypeNode, L: Ledger>(
     table: &Map<InternalName, Option<Nested>>,
     steps: &mut Steps<L>,
 ) -> Mem<Option<Nested>>
-    ensures is { IfOk result (λ found. found_type found ≡ finished (tabled table.now) (T.written ty.now)) }
+    ensures is { IfOk result (λ found. found_type found
+        ≡ finished (tabled table.now) (T.written ty.now)) }
     ensures counts { steps.new ≤ steps.old + nodes (T.written ty.now) }
 {
     match ty.look(steps) {
@@ -57,8 +58,10 @@ fn unfolded_record<T: TypeNode, L: Ledger>(
     steps: &mut Steps<L>,
 ) -> Mem<Option<Nested>>
     requires { IsRecord (T.written record_type.now) }
-    ensures is { IfOk result (λ found. found_type found ≡ finished (tabled table.now) (T.written record_type.now)) }
-    ensures counts { steps.new ≤ steps.old + attribute_nodes (attributes_of (T.written record_type.now)) }
+    ensures is { IfOk result (λ found. found_type found
+        ≡ finished (tabled table.now) (T.written record_type.now)) }
+    ensures counts { steps.new ≤ steps.old + attribute_nodes
+        (attributes_of (T.written record_type.now)) }
 {
     let mut made = Map::new(alloc);
     let mut depth: usize = 0;

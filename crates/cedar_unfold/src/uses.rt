@@ -45,10 +45,15 @@ pub(crate) fn unfolded_uses<T: TypeNode, L: Ledger>(
     steps: &mut Steps<L>,
 ) -> Out<Map<UsePlace, Type>, SchemaError>
     requires { IsStrictlySortedBy internal_cmp keys.now }
-    ensures types { IfOk result (λ made. (definitions : Definitions) → IsReady (names_of keys.now) extensions.now (tabled table.now) definitions
-        → AllZip (GivesUse (meanings_of definitions extensions.now)) (by_place T.written uses.now) (by_place resolved made)) }
-    ensures refused { IfRefused result (λ e. (definitions : Definitions) → IsReady (names_of keys.now) extensions.now (tabled table.now) definitions
-        → FirstRefused (UsePasses (meanings_of definitions extensions.now)) (UseRefuses (meanings_of definitions extensions.now)) (by_place T.written uses.now) (told e)) }
+    ensures types { IfOk result (λ made. (definitions : Definitions)
+        → IsReady (names_of keys.now) extensions.now (tabled table.now) definitions
+        → AllZip (GivesUse (meanings_of definitions extensions.now)) (by_place T.written uses.now)
+        (by_place resolved made)) }
+    ensures refused { IfRefused result (λ e. (definitions : Definitions)
+        → IsReady (names_of keys.now) extensions.now (tabled table.now) definitions
+        → FirstRefused (UsePasses (meanings_of definitions extensions.now))
+        (UseRefuses (meanings_of definitions extensions.now)) (by_place T.written uses.now)
+        (told e)) }
     ensures counts { steps.new ≤ steps.old + 2 * all_nodes (by_place T.written uses.now) }
 {
     let mut made = Map::new(alloc);
@@ -70,10 +75,14 @@ fn unfolded_use<T: TypeNode, L: Ledger>(
     steps: &mut Steps<L>,
 ) -> Out<Type, SchemaError>
     requires { IsStrictlySortedBy internal_cmp keys.now }
-    ensures passes { IfOk result (λ made. (definitions : Definitions) → IsReady (names_of keys.now) extensions.now (tabled table.now) definitions
-        → PassesAs (meanings_of definitions extensions.now) (told_use place.now, T.written ty.now) (resolved made)) }
-    ensures refused { IfRefused result (λ e. (definitions : Definitions) → IsReady (names_of keys.now) extensions.now (tabled table.now) definitions
-        → UseRefuses (meanings_of definitions extensions.now) (told_use place.now, T.written ty.now) (told e)) }
+    ensures passes { IfOk result (λ made. (definitions : Definitions)
+        → IsReady (names_of keys.now) extensions.now (tabled table.now) definitions
+        → PassesAs (meanings_of definitions extensions.now) (told_use place.now, T.written ty.now)
+        (resolved made)) }
+    ensures refused { IfRefused result (λ e. (definitions : Definitions)
+        → IsReady (names_of keys.now) extensions.now (tabled table.now) definitions
+        → UseRefuses (meanings_of definitions extensions.now) (told_use place.now, T.written ty.now)
+        (told e)) }
     ensures counts { steps.new ≤ steps.old + 2 * nodes (T.written ty.now) }
 {
     if let Some(fault) = first_fault(alloc, ty, keys, extensions, steps)? {
@@ -87,7 +96,8 @@ fn unfolded_use<T: TypeNode, L: Ledger>(
 
 /// The type, unless it is no record where one must stand.
 fn fitting(alloc: Global, place: &UsePlace, found: Nested) -> Out<Type, SchemaError>
-    ensures ok { IfOk result (λ ty. (ty ≡ found.ty) × Fits (told_use place.now) (resolved found.ty)) }
+    ensures ok { IfOk result (λ ty. (ty ≡ found.ty)
+        × Fits (told_use place.now) (resolved found.ty)) }
     ensures refused { IfRefused result (λ e. (told e ≡ ContextOrShapeNotRecord (told_use place.now))
         × (Fits (told_use place.now) (resolved found.ty) → ⊥)) }
 {
@@ -115,7 +125,9 @@ fn first_fault<T: TypeNode, L: Ledger>(
 ) -> Mem<Option<Fault>>
     requires { IsStrictlySortedBy internal_cmp keys.now }
     ensures first { IfOk result (λ fault. noted fault
-        ≡ first_of (faults_by Some (is_among (names_of keys.now)) (has_word (extension_words extensions.now)) (T.written ty.now))) }
+        ≡ first_of
+        (faults_by Some (is_among (names_of keys.now)) (has_word (extension_words extensions.now))
+        (T.written ty.now))) }
     ensures counts { steps.new ≤ steps.old + nodes (T.written ty.now) }
 {
     let mut fault = None;
@@ -127,7 +139,8 @@ fn first_fault<T: TypeNode, L: Ledger>(
 /// That the type is no record where one must stand, if it is so.
 fn misfit(alloc: Global, place: &UsePlace, ty: &Type) -> Mem<Option<SchemaError>>
     ensures { IfOk result (λ error. MatchOption error (Fits (told_use place.now) (resolved ty.now))
-        (λ error. (told error ≡ ContextOrShapeNotRecord (told_use place.now)) × (Fits (told_use place.now) (resolved ty.now) → ⊥))) }
+        (λ error. (told error ≡ ContextOrShapeNotRecord (told_use place.now))
+        × (Fits (told_use place.now) (resolved ty.now) → ⊥))) }
 {
     if let TypeView::Record(..) = ty.view() {
         return Ok(None);

@@ -28,7 +28,8 @@ pub fn unfold_two_longs<L: Ledger>(
     steps: &mut Steps<L>,
 ) -> Out<Unfolded, SchemaError>
     ensures common { IfOk result (λ u. u.common ≡ []) }
-    ensures uses { IfOk result (λ u. by_place resolved u.uses ≡ (Shape (entity_words ty), two_longs_resolved) ∷ []) }
+    ensures uses { IfOk result (λ u. by_place resolved u.uses
+        ≡ (Shape (entity_words ty), two_longs_resolved) ∷ []) }
     ensures refused { IfRefused result (λ _. ⊥) }
     ensures counts { steps.new ≤ steps.old + 6 }
 {
@@ -39,7 +40,8 @@ pub fn unfold_two_longs<L: Ledger>(
 
 /// The closed record of two whole numbers as the shape of the entity type, and no other use.
 fn only_use(alloc: Global, ty: EntityType) -> Mem<Map<UsePlace, SchemaType<InternalName>>>
-    ensures { IfOk result (λ uses. by_place (written_type components) uses ≡ (Shape (entity_words ty), two_longs) ∷ []) }
+    ensures { IfOk result (λ uses. by_place (written_type components) uses
+        ≡ (Shape (entity_words ty), two_longs) ∷ []) }
 {
     let shape = two_longs(alloc)?;
     let mut uses = Map::new(alloc);

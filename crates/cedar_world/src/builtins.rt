@@ -30,7 +30,8 @@ type Definition = ValidatorNamespaceDef<ConditionalName, ConditionalName>;
 /// The name of an identifier within a namespace.
 #[tactic(auto, using(crate::proofs::BuiltinNames::names_within))]
 fn name_within(alloc: Global, namespace: &InternalName, id: UnreservedId) -> Mem<InternalName>
-    ensures { IfOk result (λ n. components n ≡ components namespace.now ++ unreserved_word id ∷ []) }
+    ensures { IfOk result (λ n. components n ≡ components namespace.now ++ unreserved_word id
+        ∷ []) }
 {
     let name = InternalName::unqualified_name(alloc, id.into_id(), None);
     name.qualify_with(alloc, Some(namespace))
@@ -75,7 +76,8 @@ fn primitive_types(alloc: Global) -> Mem<Vec<CommonType>>
 
 /// The builtin types, under their full names.
 fn builtin_types(alloc: Global, extensions: &Extensions) -> Mem<Vec<CommonType>>
-    ensures { IfOk result (λ types. map common_type_in types.items ≡ builtins (extension_words extensions.now)) }
+    ensures { IfOk result (λ types. map common_type_in types.items
+        ≡ builtins (extension_words extensions.now)) }
 {
     let mut types = primitive_types(alloc)?;
     for extension in extensions.ext_types() {
@@ -88,7 +90,8 @@ fn builtin_types(alloc: Global, extensions: &Extensions) -> Mem<Vec<CommonType>>
 
 /// The identifiers of the builtin types: of the primitive ones, and then of the extension types.
 fn builtin_ids(alloc: Global, extensions: &Extensions) -> Mem<Vec<UnreservedId>>
-    ensures { IfOk result (λ ids. map unreserved_word ids.items ≡ primitive_words ++ extension_words extensions.now) }
+    ensures { IfOk result (λ ids. map unreserved_word ids.items ≡ primitive_words
+        ++ extension_words extensions.now) }
 {
     let mut ids = Vec::new(alloc);
     ids.push(UnreservedId::known(alloc, "Bool")?)?;
@@ -131,7 +134,8 @@ fn push_alias(
 
 /// The aliases of the builtin types, but for those whose name is that of a declared type.
 fn alias_types(alloc: Global, own: &AllDefs, extensions: &Extensions) -> Mem<Vec<CommonType>>
-    ensures { IfOk result (λ types. map common_type_in types.items ≡ aliases (names_of own.now) (extension_words extensions.now)) }
+    ensures { IfOk result (λ types. map common_type_in types.items
+        ≡ aliases (names_of own.now) (extension_words extensions.now)) }
 {
     let ids = builtin_ids(alloc, extensions)?;
     let mut types = Vec::new(alloc);
@@ -148,7 +152,8 @@ fn of_common_types(
     namespace: Option<InternalName>,
     types: Vec<CommonType>,
 ) -> Mem<Definition>
-    ensures { IfOk result (λ d. namespace_in d ≡ of_common_types (map_of words_cmp (map common_type_in types.items))) }
+    ensures { IfOk result (λ d. namespace_in d
+        ≡ of_common_types (map_of words_cmp (map common_type_in types.items))) }
 {
     let defs = Map::from_pairs(alloc, types)?;
     Ok(ValidatorNamespaceDef {

@@ -56,7 +56,8 @@ fn write_set<N: fmt::Display, W: fmt::Write>(
     element: &SchemaType<N>,
     f: &mut fmt::Formatter<W>,
 ) -> fmt::Result
-    ensures { DisplaysOnOk W.write_str_gives f.old result (text_of N.output (set_printed (print_type element.now))) f.new }
+    ensures { DisplaysOnOk W.write_str_gives f.old result
+        (text_of N.output (set_printed (print_type element.now))) f.new }
 {
     write_set_head(f)?;
     element.fmt(f)?;
@@ -83,7 +84,8 @@ fn write_record<N: fmt::Display, W: fmt::Write>(
     fields: &RecordType<N>,
     f: &mut fmt::Formatter<W>,
 ) -> fmt::Result
-    ensures { DisplaysOnOk W.write_str_gives f.old result (text_of N.output (print_record fields.now)) f.new }
+    ensures { DisplaysOnOk W.write_str_gives f.old result
+        (text_of N.output (print_record fields.now)) f.new }
 {
     write!(f, "{{")?;
     write_attributes(&fields.attributes, f)?;
@@ -98,7 +100,8 @@ fn write_attributes<N: fmt::Display, W: fmt::Write>(
     f: &mut fmt::Formatter<W>,
 ) -> fmt::Result
     ensures { DisplaysOnOk W.write_str_gives f.old result
-        (text_of N.output (separated next_line with_name (map_values print_attribute attributes.now))) f.new }
+        (text_of N.output
+        (separated next_line with_name (map_values print_attribute attributes.now))) f.new }
 {
     let mut is_first = true;
     for (name, attribute) in attributes.iter() {
@@ -111,7 +114,8 @@ fn write_attributes<N: fmt::Display, W: fmt::Write>(
 
 /// Writes what stands between attributes, unless none is written yet.
 fn write_separator<W: fmt::Write>(is_first: bool, f: &mut fmt::Formatter<W>) -> fmt::Result
-    ensures { DisplaysOnOk W.write_str_gives f.old result (text_of nameless (unless_first is_first next_line)) f.new }
+    ensures { DisplaysOnOk W.write_str_gives f.old result
+        (text_of nameless (unless_first is_first next_line)) f.new }
 {
     if is_first {
         return Ok(());
@@ -126,7 +130,8 @@ fn write_attribute<N: fmt::Display, W: fmt::Write>(
     attribute: &TypeOfAttribute<N>,
     f: &mut fmt::Formatter<W>,
 ) -> fmt::Result
-    ensures { DisplaysOnOk W.write_str_gives f.old result (text_of N.output (print_attribute attribute.now name.now)) f.new }
+    ensures { DisplaysOnOk W.write_str_gives f.old result
+        (text_of N.output (print_attribute attribute.now name.now)) f.new }
 {
     write_annotations(&attribute.annotations, f)?;
     write_attribute_name(name, attribute.required, f)?;
@@ -139,7 +144,8 @@ fn write_attribute_name<W: fmt::Write>(
     required: bool,
     f: &mut fmt::Formatter<W>,
 ) -> fmt::Result
-    ensures { DisplaysOnOk W.write_str_gives f.old result (text_of nameless (name_printed name.now required)) f.new }
+    ensures { DisplaysOnOk W.write_str_gives f.old result
+        (text_of nameless (name_printed name.now required)) f.new }
 {
     let name = Quoted(name);
     if required {

@@ -45,7 +45,8 @@ impl<'a> Step<RawName> for Qualifying<'a> {
         id: &Text,
         ty: Option<RawName>,
     ) -> Out<ConditionalName, Never>
-        ensures { Answers result (qualifying (option_copied self.now.namespace) (parent id.now ty)) }
+        ensures { Answers result
+            (qualifying (option_copied self.now.namespace) (parent id.now ty)) }
     {
         let name = type_or_action(alloc, ty)?;
         let kind = ReferenceType::Entity;

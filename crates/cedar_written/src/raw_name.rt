@@ -140,7 +140,8 @@ fn other_possibilities(
     name: &InternalName,
     ns: Option<&InternalName>,
 ) -> Mem<Items<InternalName>>
-    ensures { IfOk result (λ names. names ≡ (possibilities (option_copied ns.entry) name.now).tail) }
+    ensures { IfOk result (λ names. names
+        ≡ (possibilities (option_copied ns.entry) name.now).tail) }
 {
     if ns.is_none() || !name.is_unqualified() {
         return Ok(Items::new(alloc));
