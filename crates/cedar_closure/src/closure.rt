@@ -1,5 +1,5 @@
 // SPDX-License-Identifier: Apache-2.0
-ghost use Rattle.std.specs.Prelude.{◌≡◌, ◌<◌, ◌≤◌, ◌+◌, ◌↔◌, ◌⊎◌, [], ◌∷◌, false, length, replicate, IsTrue, IfOk, OnOk, All, Contains, IsSomeAnd};
+ghost use Rattle.std.specs.Prelude.{◌≡◌, ◌<◌, ◌≤◌, ◌+◌, ◌↔◌, ◌⊎◌, [], ◌∷◌, ◌++◌, false, length, replicate, IsTrue, IfOk, OnOk, All, Contains, IsSomeAnd};
 ghost use Rattle.std.specs.List.Sorted.{IsStrictlySortedBy};
 ghost use Rattle.std.specs.Map.{keys_of};
 ghost use Rattle.cedar_data.specs.Maps.{IsSortedMap};
@@ -35,7 +35,54 @@ pub fn compute_tc<K: TcKey, V: TcNode<K>>(
         ((vertex : K) × (error ≡ HasCycle vertex)
         × IsLeastOnCycle K.cmp V.edges nodes.entries vertex)) }
 {
-    let nodes = Map::from_map(nodes);
+    let nodes = map_of_btree(alloc, nodes)?;
+    let closed = close_map(alloc, nodes, enforce_dag)?;
+    let closed = btree_of_map(alloc, closed)?;
+    Ok(closed)
+}
+
+/// The entries of a `BTreeMap` as a map.
+fn map_of_btree<K: Ord + Drop, V: Drop>(alloc: Global, entries: BTreeMap<K, V>) -> Mem<Map<K, V>>
+    ensures { IfOk result (λ map. map ≡ entries.entries) }
+{
+    let mut map = Map::new(alloc);
+    for (key, value) in entries {
+        map.push_last(key, value)?;
+    }
+    Ok(map)
+}
+
+/// The entries of a map as a `BTreeMap`.
+fn btree_of_map<K: Ord + Drop, V: Drop>(alloc: Global, map: Map<K, V>) -> Mem<BTreeMap<K, V>>
+    ensures { IfOk result (λ entries. entries.entries ≡ map) }
+{
+    let mut entries = BTreeMap::new(alloc);
+    for (key, value) in map.into_entries() {
+        append_entry(&mut entries, key, value)?;
+    }
+    Ok(entries)
+}
+
+/// Puts an entry after all others.
+fn append_entry<K: Ord + Drop, V: Drop>(entries: &mut BTreeMap<K, V>, key: K, value: V) -> Mem<()>
+    requires { IsStrictlySortedBy K.cmp (keys_of entries.old.entries ++ key ∷ []) }
+    ensures { OnOk result (entries.new.entries ≡ entries.old.entries ++ (key, value) ∷ []) }
+{
+    entries.insert(key, value)?;
+    Ok(())
+}
+
+/// As `compute_tc`, of a map.
+pub fn close_map<K: TcKey, V: TcNode<K>>(
+    alloc: Global,
+    nodes: Map<K, V>,
+    enforce_dag: bool,
+) -> Out<Map<K, V>, TcError<K>>
+    ensures closed { IfOk result (λ closed. IsClosure K.cmp V.key V.edges V.rest nodes closed) }
+    ensures acyclic { IfOk result (λ _. IsTrue enforce_dag → IsAcyclic K.cmp V.edges nodes) }
+    ensures refused { IfRefused result (λ error. IsTrue enforce_dag ×
+        ((vertex : K) × (error ≡ HasCycle vertex) × IsLeastOnCycle K.cmp V.edges nodes vertex)) }
+{
     let keys = keys_of_nodes(alloc, &nodes)?;
     let rows = rows_of_nodes(alloc, &nodes, keys.as_slice())?;
     let mut marks = vec![in alloc; 0usize; keys.len()]?;
@@ -47,7 +94,7 @@ pub fn compute_tc<K: TcKey, V: TcNode<K>>(
         marks.as_mut_slice(),
         enforce_dag,
     )?;
-    Ok(closed.into_map())
+    Ok(closed)
 }
 
 /// Closes the edges of each node, in the order of their keys.

@@ -9,6 +9,6 @@ mod tc_error;
 mod tc_node;
 
 pub use cedar_data::SetIter;
-pub use closure::compute_tc;
+pub use closure::{close_map, compute_tc};
 pub use tc_error::TcError;
 pub use tc_node::{TcKey, TcNode};

@@ -2,26 +2,28 @@
 ghost use Rattle.std.specs.Prelude.{◌≡◌, [], ◌∷◌, ◌++◌, ◌&&◌, ◌↔◌, length, is_some, IsTrue, IfOk, OnOk, OnErr};
 ghost use Rattle.std.specs.Option.{option_copied};
 ghost use Rattle.std.specs.BTreeMap.{insert_entry, is_at};
-ghost use Rattle.std.specs.Map.{keys_of};
+ghost use Rattle.std.specs.Map.{keys_of, values_of};
 ghost use Rattle.std.specs.List.Sorted.{IsStrictlySortedBy};
 ghost use Rattle.std.specs.Cmp.Lexicographic.{pointwise, slice_cmp, slice_partial_cmp, lists_per, lists_equiv, lists_po, lists_total, lists_agrees, lists_ties};
 ghost use Rattle.std.specs.Cmp.{on_per, and_per, on_equiv, and_equiv, on_po, then_po, on_total, then_total, then_agrees, both_tied};
 ghost use Rattle.std.specs.Ordering.{ordering_then, partial_ordering_then};
 ghost use Rattle.cedar_data.specs.Maps.{get, map_of, get_text, last_value, IsSortedMap, Puts};
 
+use crate::boxed::Boxed;
 use crate::dup::Dup;
+use crate::map_iter::{MapIntoIter, MapIter, MapKeys, MapValues};
 use crate::memory::Mem;
 use crate::text::Text;
 use std::alloc::Global;
 use std::cmp::Ordering;
 use std::collections::BTreeMap;
-use std::collections::btree_map::{IntoIter, Iter};
 use std::marker::Model;
 
 /// A map in the order of its keys, that contracts see as the list of its entries, so that a copy equals its source.
 #[derive(Debug, Drop)]
 pub struct Map<K: Ord, V> {
-    map: BTreeMap<K, V>,
+    alloc: Global,
+    map: BTreeMap<K, Boxed<V>>,
 }
 
 impl<K: Ord, V> Model for Map<K, V> {
@@ -41,27 +43,13 @@ impl<K: Ord, V> Map<K, V> {
         ensures { result ≡ [] }
     {
         Map {
+            alloc,
             map: BTreeMap::new(alloc),
         }
     }
 
-    /// The entries of a `BTreeMap`. It takes no memory.
-    pub fn from_map(map: BTreeMap<K, V>) -> Map<K, V>
-        ensures { result ≡ map.entries }
-    {
-        Map { map }
-    }
-
-    /// The entries as a `BTreeMap`. It takes no memory.
-    pub fn into_map(self) -> BTreeMap<K, V>
-        ensures { result.entries ≡ self }
-    {
-        let Map { map } = self;
-        map
-    }
-
-    /// The entries as a `BTreeMap`, lent.
-    pub fn as_map(&self) -> &BTreeMap<K, V>
+    /// The entries as a `BTreeMap` of values on the heap, lent.
+    pub fn as_map(&self) -> &BTreeMap<K, Boxed<V>>
         ensures { result.now.entries ≡ self.now }
     {
         &self.map
@@ -86,7 +74,10 @@ impl<K: Ord, V> Map<K, V> {
     pub fn get(&self, key: &K) -> Option<&V>
         ensures { option_copied result ≡ get K.cmp self.now key.now }
     {
-        self.map.get(key)
+        match self.map.get(key) {
+            Some(value) => Some(value.get()),
+            None => None,
+        }
     }
 
     /// Whether a key is equal to `key` in the order of the keys.
@@ -97,22 +88,36 @@ impl<K: Ord, V> Map<K, V> {
     }
 
     /// The entries, in the order of the keys.
-    pub fn iter(&self) -> Iter<'_, K, V>
+    pub fn iter(&self) -> MapIter<'_, K, V>
         ensures rest { result ≡ self.now }
         ensures ordered { IsSortedMap K.cmp self.now }
     {
-        self.map.iter()
+        MapIter::of(self.map.iter())
+    }
+
+    /// The keys, in their order.
+    pub fn keys(&self) -> MapKeys<'_, K, V>
+        ensures { result ≡ keys_of self.now }
+    {
+        self.map.keys()
+    }
+
+    /// The values, in the order of their keys.
+    pub fn values(&self) -> MapValues<'_, K, V>
+        ensures { result ≡ values_of self.now }
+    {
+        MapValues::of(self.map.values())
     }
 }
 
 impl<K: Ord + Drop, V: Drop> Map<K, V> {
     /// The entries by value, in the order of the keys.
-    pub fn into_entries(self) -> IntoIter<K, V>
+    pub fn into_entries(self) -> MapIntoIter<K, V>
         ensures rest { result ≡ self }
         ensures ordered { IsSortedMap K.cmp self }
     {
-        let Map { map } = self;
-        map.into_iter()
+        let Map { alloc: _, map } = self;
+        MapIntoIter::of(map.into_iter())
     }
 
     /// Puts `value` at `key`, and answers the value that was there. An equal key that is there stays, also where it
@@ -124,8 +129,14 @@ impl<K: Ord + Drop, V: Drop> Map<K, V> {
         ensures err { OnErr result (self.new ≡ self.old) }
         ensures ordered { IsSortedMap K.cmp self.new }
     {
+        // It tells that the keys are in order where there is no memory for the value.
+        let _len = self.map.len();
+        let value = Boxed::new(self.alloc, value)?;
         let old = self.map.insert(key, value)?;
-        Ok(old)
+        match old {
+            Some(value) => Ok(Some(value.into_inner())),
+            None => Ok(None),
+        }
     }
 
     /// Puts `value` at `key`, in place of the value that was there. It fails only for want of memory, and then changes

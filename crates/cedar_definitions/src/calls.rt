@@ -10,20 +10,19 @@ use crate::structures::{
     ActionFragment, ActionsDef, EntityTypeFragment, EntityTypesDef, ValidatorApplySpec,
     ValidatorNamespaceDef, ValidatorSchemaFragment,
 };
-use cedar_data::{Items, Map, Set, SetIter};
+use cedar_data::{Items, Map, MapKeys, Set, SetIter};
 use cedar_names::{EntityType, EntityUID, InternalName};
 use cedar_written::{RefName, SchemaType};
 use std::alloc::Global;
-use std::collections::btree_map::Keys;
 
 /// The full names of entity types, in order.
-pub type EntityNameIter<'a, N> = Keys<'a, EntityType, EntityTypeFragment<N>>;
+pub type EntityNameIter<'a, N> = MapKeys<'a, EntityType, EntityTypeFragment<N>>;
 
 /// The full names of common types, in order.
-pub type CommonNameIter<'a, N> = Keys<'a, InternalName, SchemaType<N>>;
+pub type CommonNameIter<'a, N> = MapKeys<'a, InternalName, SchemaType<N>>;
 
 /// The ids of actions, in order.
-pub type ActionNameIter<'a, N, A> = Keys<'a, EntityUID, ActionFragment<N, A>>;
+pub type ActionNameIter<'a, N, A> = MapKeys<'a, EntityUID, ActionFragment<N, A>>;
 
 impl<N: RefName + Ord, A: Ord> ValidatorSchemaFragment<N, A> {
     /// These definitions, as they are given. It takes no memory.
@@ -61,21 +60,21 @@ impl<N: RefName + Ord, A: Ord> ValidatorNamespaceDef<N, A> {
     pub fn all_declared_entity_type_names(&self) -> EntityNameIter<'_, N>
         ensures { result ≡ keys_of self.now.entity_types.defs }
     {
-        self.entity_types.defs.as_map().keys()
+        self.entity_types.defs.keys()
     }
 
     /// The full names of its common types, in order. It takes no memory.
     pub fn all_declared_common_type_names(&self) -> CommonNameIter<'_, N>
         ensures { result ≡ keys_of self.now.common_types.defs }
     {
-        self.common_types.defs.as_map().keys()
+        self.common_types.defs.keys()
     }
 
     /// The ids of its actions, in order. It takes no memory.
     pub fn all_declared_action_names(&self) -> ActionNameIter<'_, N, A>
         ensures { result ≡ keys_of self.now.actions.actions }
     {
-        self.actions.actions.as_map().keys()
+        self.actions.actions.keys()
     }
 }
 

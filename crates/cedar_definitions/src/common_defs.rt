@@ -21,7 +21,7 @@ impl ValidatorNamespaceDef<ConditionalName, ConditionalName> {
     ) -> Mem<ValidatorNamespaceDef<ConditionalName, ConditionalName>>
         ensures { IfOk result (λ d. IsOfCommonTypes namespace defs.entries d) }
     {
-        let types = named_in(alloc, namespace.as_ref(), Map::from_map(defs))?;
+        let types = named_in(alloc, namespace.as_ref(), defs)?;
         Ok(of_common_types(alloc, namespace, types))
     }
 
@@ -89,13 +89,13 @@ fn named_alone<T: Drop>(
 fn named_in<T: Drop>(
     alloc: Global,
     namespace: Option<&InternalName>,
-    defs: Map<UnreservedId, T>,
+    defs: BTreeMap<UnreservedId, T>,
 ) -> Mem<Map<InternalName, T>>
     ensures { IfOk result (λ m. m
-        ≡ map_of internal_cmp (named_types (option_copied namespace.entry) defs)) }
+        ≡ map_of internal_cmp (named_types (option_copied namespace.entry) defs.entries)) }
 {
     let mut named = Map::new(alloc);
-    for (id, value) in defs.into_entries() {
+    for (id, value) in defs {
         let name = name_in(alloc, namespace, id)?;
         named.put(name, value)?;
     }

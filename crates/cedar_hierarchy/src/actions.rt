@@ -24,7 +24,7 @@ use crate::children::{Children, children_of};
 use crate::gathered::{HasParents, gather};
 use crate::targets::all_meant;
 use crate::uses::{Uses, copy_at};
-use cedar_closure::compute_tc;
+use cedar_closure::close_map;
 use cedar_data::{Dup, Failure, Map, Mem, Out, Set};
 use cedar_declared::AllDefs;
 use cedar_names::{EntityType, EntityUID};
@@ -142,8 +142,8 @@ fn close_actions(
     ensures acyclic { IfOk result (λ _. IsAcyclic resolved.uid_cmp action_descendants nodes) }
     ensures refused { IfRefused result (TellsCycle nodes) }
 {
-    match compute_tc(alloc, nodes.into_map(), true) {
-        Ok(closed) => Ok(Map::from_map(closed)),
+    match close_map(alloc, nodes, true) {
+        Ok(closed) => Ok(closed),
         Err(Failure::Refused(error)) => Err(Failure::Refused(SchemaError::from(error))),
         Err(Failure::NoMemory) => Err(Failure::NoMemory),
     }

@@ -17,7 +17,7 @@ use crate::children::{Children, children_of};
 use crate::gathered::{HasParents, gather};
 use crate::targets::all_meant;
 use crate::uses::{Uses, copy_at, record_at};
-use cedar_closure::compute_tc;
+use cedar_closure::close_map;
 use cedar_data::{Dup, Failure, Map, Mem, NoMemory, Set, Text};
 use cedar_declared::AllDefs;
 use cedar_names::EntityType;
@@ -141,8 +141,8 @@ fn close_entity_types(
     ensures { IfOk result
         (IsClosure entity_cmp type_name (λ ty. ty.descendants) (type_with []) nodes) }
 {
-    match compute_tc(alloc, nodes.into_map(), false) {
-        Ok(closed) => Ok(Map::from_map(closed)),
+    match close_map(alloc, nodes, false) {
+        Ok(closed) => Ok(closed),
         Err(Failure::Refused(_)) => unreachable!(),
         Err(Failure::NoMemory) => Err(NoMemory),
     }

@@ -8,10 +8,9 @@ ghost use Rattle.cedar_names.specs.Annotating.{annotation_entries, annotation_at
 ghost use Rattle.cedar_names.specs.Identifiers.{any_word};
 
 use crate::any_id::AnyId;
-use cedar_data::{Dup, Map, Mem, Text};
+use cedar_data::{Dup, Map, MapIter, Mem, Text};
 use cedar_text::Loc;
 use std::alloc::Global;
-use std::collections::btree_map::Iter;
 
 /// The value of an annotation. Comparisons leave the place out.
 #[derive(Debug, Drop)]
@@ -31,7 +30,7 @@ impl Dup for Annotation {
 }
 
 /// Annotations with their keys, in key order.
-pub type AnnotationIter<'a> = Iter<'a, AnyId, Annotation>;
+pub type AnnotationIter<'a> = MapIter<'a, AnyId, Annotation>;
 
 /// Annotations by their keys, in key order.
 #[derive(Debug, Drop, PartialEq, Eq, PartialOrd, Ord)]

@@ -5,27 +5,27 @@ ghost use Rattle.cedar_resolved.specs.Queries.{ancestors_left, groups_left, grou
 
 use crate::action::ValidatorActionId;
 use crate::entity_type::ValidatorEntityType;
+use cedar_data::MapIter;
 use cedar_names::{EntityType, EntityUID};
-use std::collections::btree_map::Iter;
 
 /// The names of the entity types that have a type among their descendants, in order.
 #[derive(Drop)]
 pub struct AncestorIter<'a> {
     ty: &'a EntityType,
-    types: Iter<'a, EntityType, ValidatorEntityType>,
+    types: MapIter<'a, EntityType, ValidatorEntityType>,
 }
 
 /// The names of the actions that have descendants, in order.
 #[derive(Drop)]
 pub struct GroupIter<'a> {
-    actions: Iter<'a, EntityUID, ValidatorActionId>,
+    actions: MapIter<'a, EntityUID, ValidatorActionId>,
 }
 
 impl<'a> AncestorIter<'a> {
     /// Those of these entity types that have the type among their descendants.
     pub(crate) fn of(
         ty: &'a EntityType,
-        types: Iter<'a, EntityType, ValidatorEntityType>,
+        types: MapIter<'a, EntityType, ValidatorEntityType>,
     ) -> AncestorIter<'a>
         ensures { ancestors_left result ≡ types_above ty.now types.entry }
     {
@@ -35,7 +35,7 @@ impl<'a> AncestorIter<'a> {
 
 impl<'a> GroupIter<'a> {
     /// Those of these actions that have descendants.
-    pub(crate) fn of(actions: Iter<'a, EntityUID, ValidatorActionId>) -> GroupIter<'a>
+    pub(crate) fn of(actions: MapIter<'a, EntityUID, ValidatorActionId>) -> GroupIter<'a>
         ensures { groups_left result ≡ groups_of actions.entry }
     {
         GroupIter { actions }

@@ -4,10 +4,9 @@ ghost use Rattle.std.specs.Iterator.{YieldsFirstBy, item_count};
 ghost use Rattle.cedar_resolved.specs.Environments.{action_left, environment, environment_of, environments_left, environments_of, environments_of_all};
 
 use crate::action::ValidatorActionId;
-use cedar_data::SetIter;
+use cedar_data::{MapIter, SetIter};
 use cedar_names::{EntityType, EntityUID};
 use cedar_types::Type;
-use std::collections::btree_map::Iter;
 
 /// What a request may be of: which principals take which action on which resources in which context.
 #[derive(Debug, Drop)]
@@ -30,7 +29,7 @@ pub enum RequestEnv<'a> {
 #[derive(Drop)]
 pub struct EnvIter<'a> {
     current: Option<ActionEnvs<'a>>,
-    actions: Iter<'a, EntityUID, ValidatorActionId>,
+    actions: MapIter<'a, EntityUID, ValidatorActionId>,
 }
 
 /// The request environments of one action that are left.
@@ -93,7 +92,7 @@ impl<'a> ActionEnvs<'a> {
 
 /// The first environment of the first action that has one, with the others of the action.
 fn first_environment<'a>(
-    actions: &mut Iter<'a, EntityUID, ValidatorActionId>,
+    actions: &mut MapIter<'a, EntityUID, ValidatorActionId>,
 ) -> Option<(RequestEnv<'a>, ActionEnvs<'a>)>
     ensures { MatchOption result ((environments_of_all actions.old ≡ []) × (actions.new ≡ []))
         (λ found. environments_of_all actions.old
@@ -110,7 +109,7 @@ fn first_environment<'a>(
 
 impl<'a> EnvIter<'a> {
     /// Those of these actions.
-    pub(crate) fn of(actions: Iter<'a, EntityUID, ValidatorActionId>) -> EnvIter<'a>
+    pub(crate) fn of(actions: MapIter<'a, EntityUID, ValidatorActionId>) -> EnvIter<'a>
         ensures { environments_left result ≡ environments_of_all actions.entry }
     {
         EnvIter {

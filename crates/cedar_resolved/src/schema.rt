@@ -8,10 +8,9 @@ ghost use Rattle.cedar_resolved.specs.Schemas.{action_entry, action_types, type_
 use crate::action::ValidatorActionId;
 use crate::entity_type::ValidatorEntityType;
 use cedar_closure::{TcKey, TcNode};
-use cedar_data::{Dup, Map, Mem, dup_two};
+use cedar_data::{Dup, Map, MapKeys, MapValues, Mem, dup_two};
 use cedar_names::{EntityType, EntityUID};
 use std::alloc::Global;
-use std::collections::btree_map::{Keys, Values};
 
 /// A resolved schema.
 #[derive(Debug, Drop)]
@@ -21,16 +20,16 @@ pub struct ValidatorSchema {
 }
 
 /// Entity types, in the order of their names.
-pub type EntityIter<'a> = Values<'a, EntityType, ValidatorEntityType>;
+pub type EntityIter<'a> = MapValues<'a, EntityType, ValidatorEntityType>;
 
 /// The names of entity types, in order.
-pub type EntityKeyIter<'a> = Keys<'a, EntityType, ValidatorEntityType>;
+pub type EntityKeyIter<'a> = MapKeys<'a, EntityType, ValidatorEntityType>;
 
 /// Actions, in the order of their names.
-pub type ActionIter<'a> = Values<'a, EntityUID, ValidatorActionId>;
+pub type ActionIter<'a> = MapValues<'a, EntityUID, ValidatorActionId>;
 
 /// The names of actions, in order.
-pub type ActionKeyIter<'a> = Keys<'a, EntityUID, ValidatorActionId>;
+pub type ActionKeyIter<'a> = MapKeys<'a, EntityUID, ValidatorActionId>;
 
 /// The nodes by their names. Of several of one name the last stays.
 fn by_name<K: TcKey, V: TcNode<K>>(alloc: Global, nodes: Vec<V>) -> Mem<Map<K, V>>
@@ -103,28 +102,28 @@ impl ValidatorSchema {
     pub fn entity_types(&self) -> EntityIter<'_>
         ensures { result ≡ values_of (types self.now) }
     {
-        self.entity_types.as_map().values()
+        self.entity_types.values()
     }
 
     /// The names of the entity types, in order.
     pub fn entity_type_names(&self) -> EntityKeyIter<'_>
         ensures { result ≡ keys_of (types self.now) }
     {
-        self.entity_types.as_map().keys()
+        self.entity_types.keys()
     }
 
     /// The actions, in the order of their names.
     pub fn action_ids(&self) -> ActionIter<'_>
         ensures { result ≡ values_of (action_types self.now) }
     {
-        self.action_ids.as_map().values()
+        self.action_ids.values()
     }
 
     /// The names of the actions, in order.
     pub fn actions(&self) -> ActionKeyIter<'_>
         ensures { result ≡ keys_of (action_types self.now) }
     {
-        self.action_ids.as_map().keys()
+        self.action_ids.keys()
     }
 }
 

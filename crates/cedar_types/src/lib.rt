@@ -6,6 +6,6 @@
 mod ty;
 mod value;
 
-pub use cedar_closure::{SetIter, TcError, TcKey, TcNode, compute_tc};
+pub use cedar_closure::{SetIter, TcError, TcKey, TcNode, close_map, compute_tc};
 pub use ty::{AttrIter, AttributeType, Attributes, OpenTag, ResolvedType as Type, TypeView};
 pub use value::{CedarValueJson, ValueList, ValueListIter, ValueMap, ValueMapIter};

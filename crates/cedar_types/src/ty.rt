@@ -7,10 +7,9 @@ ghost use Rattle.cedar_data.specs.Maps.{get_text, is_text, last_value, map_value
 ghost use Rattle.cedar_types.specs.Types.{bool_type, long_type, string_type, set_type, record_type, entity_type, extension_type, entries, attributes_of, required, layer, lent};
 ghost use Rattle.cedar_types.specs.declared.ty.OpenTag.TheVariants.{OpenAttributes};
 
-use cedar_data::{Dup, Map, Mem, Shared, Text};
+use cedar_data::{Dup, Map, MapIter, Mem, Shared, Text};
 use cedar_names::{EntityType, Name};
 use std::alloc::Global;
-use std::collections::btree_map::Iter;
 
 /// A resolved type. Its parts are shared, so that a copy takes no memory but for its names.
 #[cycle(ty)]
@@ -58,7 +57,7 @@ pub enum OpenTag {
 }
 
 /// Attributes by name, in the order of the names.
-pub type AttrIter<'a> = Iter<'a, Text, AttributeType>;
+pub type AttrIter<'a> = MapIter<'a, Text, AttributeType>;
 
 /// A resolved type with its parts lent.
 #[derive(Clone, Copy, Debug)]

@@ -8,9 +8,8 @@ ghost use Rattle.std.specs.Slice.Iter.{iter_rest};
 ghost use Rattle.cedar_data.specs.Maps.{get_text, is_text, IsSortedMap};
 ghost use Rattle.cedar_types.specs.Values.{members, list_values};
 
-use cedar_data::{Dup, Items, Map, Mem, Text};
+use cedar_data::{Dup, Items, Map, MapIter, Mem, Text};
 use std::alloc::Global;
-use std::collections::btree_map;
 use std::slice;
 
 /// A value of an attribute of an action, as JSON writes it.
@@ -52,7 +51,7 @@ pub struct ValueList {
 }
 
 /// Values by name, in the order of the names.
-pub type ValueMapIter<'a> = btree_map::Iter<'a, Text, CedarValueJson>;
+pub type ValueMapIter<'a> = MapIter<'a, Text, CedarValueJson>;
 
 /// Values in a row.
 pub type ValueListIter<'a> = slice::Iter<'a, CedarValueJson>;

@@ -22,5 +22,8 @@ pub(crate) fn next_entry<'a, V>(
         None => Bound::Unbounded,
         Some(key) => Bound::Excluded(key),
     };
-    map.as_map().range((start, Bound::Unbounded)).next()
+    match map.as_map().range((start, Bound::Unbounded)).next() {
+        Some((key, value)) => Some((key, value.get())),
+        None => None,
+    }
 }

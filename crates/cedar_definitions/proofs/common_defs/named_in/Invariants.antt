@@ -11,4 +11,4 @@ use Rattle.cedar_definitions.proofs.common_defs.named_in.Given as goal
 abbrev pub invariant-loop-id : goal.invariant-loop-id
 invariant-loop-id g l =
     fold (λ es pair. insert_entry internal_cmp es pair.0 pair.1) l.named (named_types (option_copied l.namespace) l.id-iterator)
-    ≡ map_of internal_cmp (named_types (option_copied l.fn.namespace) l.fn.defs)
+    ≡ map_of internal_cmp (named_types (option_copied l.fn.namespace) l.fn.defs.entries)

@@ -1,0 +1,7 @@
+-- SPDX-License-Identifier: Apache-2.0
+use Rattle.std.proofs.Common.{◌≡◌, ◌++◌}
+use Rattle.cedar_closure.proofs.closure.btree_of_map.Given as goal
+
+-- the entries so far, with those that are left, are all
+abbrev pub invariant-loop-key : goal.invariant-loop-key
+invariant-loop-key g l = l.entries.entries ++ l.key-iterator ≡ l.fn.map
