@@ -125,8 +125,8 @@ fn add_entities(
     Ok(())
 }
 
-/// The warnings of a namespace: of its common types and then of its entity types. Where there are none, which needs no
-/// order of the names, none is looked for.
+/// The warnings of a namespace: of its common types and then of its entity types. Where it has no common type and no
+/// entity type has the name of a builtin type, there are none, and no order of the names is made.
 #[tactic(auto, using(crate::proofs::Builtins::unshadowed))]
 fn namespace_warnings(
     alloc: Global,

@@ -106,7 +106,7 @@ impl<T: Drop> Items<T> {
 
 impl<T: Dup + Drop> Dup for Items<T> {
     fn dup(&self, alloc: Global) -> Mem<Items<T>> {
-        let mut items = Vec::new(alloc);
+        let mut items = Vec::with_capacity(alloc, self.items.len())?;
         for item in self.items.as_slice() {
             let copy = item.dup(alloc)?;
             items.push(copy)?;

@@ -146,8 +146,9 @@ impl InternalName {
         if !self.is_unqualified() {
             return Ok(self);
         }
-        let mut namespace = outer.namespace.to_ids(alloc)?;
-        namespace.push(outer.basename.dup(alloc)?)?;
+        let namespace = outer
+            .namespace
+            .to_ids_with(alloc, outer.basename.dup(alloc)?)?;
         let InternalName {
             basename,
             namespace: _,

@@ -1,5 +1,5 @@
 // SPDX-License-Identifier: Apache-2.0
-ghost use Rattle.std.specs.Prelude.{◌≡◌, [], ◌↔◌, IsTrue, IfOk};
+ghost use Rattle.std.specs.Prelude.{◌≡◌, [], ◌∷◌, ◌++◌, ◌↔◌, IsTrue, IfOk};
 ghost use Rattle.std.specs.Slice.Iter.{iter_rest};
 
 use crate::id::Id;
@@ -87,15 +87,17 @@ impl Namespace {
         self.as_slice().is_empty()
     }
 
-    /// The identifiers in a list of their own.
-    pub fn to_ids(&self, alloc: Global) -> Mem<Vec<Id>>
-        ensures { IfOk result (λ ids. ids.items ≡ self.now) }
+    /// The identifiers and one more behind them, in a list of their own, which has no room for others.
+    pub fn to_ids_with(&self, alloc: Global, last: Id) -> Mem<Vec<Id>>
+        ensures { IfOk result (λ ids. ids.items ≡ self.now ++ last ∷ []) }
     {
-        let ids = match &self.held {
-            Held::Alone(ids) => ids.dup(alloc)?,
-            Held::Together(ids) => ids.get().dup(alloc)?,
-        };
-        Ok(ids.into_vec())
+        let outer = self.as_slice();
+        let mut ids = Vec::with_capacity(alloc, outer.len().saturating_add(1))?;
+        for id in outer {
+            ids.push(id.dup(alloc)?)?;
+        }
+        ids.push(last)?;
+        Ok(ids)
     }
 }
 

@@ -146,9 +146,9 @@ fn other_possibilities(
     if ns.is_none() || !name.is_unqualified() {
         return Ok(Items::new(alloc));
     }
-    let mut names = Items::new(alloc);
+    let mut names = Vec::with_capacity(alloc, 1)?;
     names.push(name.dup(alloc)?)?;
-    Ok(names)
+    Ok(Items::from_vec(names))
 }
 
 impl fmt::Display for RawName {
