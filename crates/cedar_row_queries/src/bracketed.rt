@@ -5,7 +5,7 @@ use std::alloc::Global;
 
 /// Items in brackets, so far.
 #[derive(Drop)]
-pub(crate) struct Bracketed {
+pub struct Bracketed {
     alloc: Global,
     text: String,
 }

@@ -84,7 +84,8 @@ fn types_or_none(alloc: Global, types: Option<SetIter<'_, EntityType>>) -> Mem<S
     }
 }
 
-pub(crate) fn types_told(alloc: Global, types: SetIter<'_, EntityType>) -> Mem<String> {
+/// The entity types in brackets.
+pub fn types_told(alloc: Global, types: SetIter<'_, EntityType>) -> Mem<String> {
     let mut names = Bracketed::new(alloc);
     for ty in types {
         names.add_type(ty)?;

@@ -20,7 +20,7 @@ pub fn queries(alloc: Global, words: &[&str], input: &str) -> Mem<String> {
 }
 
 /// What the queries of a schema give, or what is said of why there is none.
-pub(crate) fn made_told(
+pub fn made_told(
     alloc: Global,
     words: &[&str],
     made: &Out<ValidatorSchema, CedarSchemaError>,

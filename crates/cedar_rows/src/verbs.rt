@@ -43,6 +43,10 @@ fn lines_of(alloc: Global, verb: &str, words: &[&str], input: &str) -> Lines {
     let lines = either(lines, cedar_row_print::answer(alloc, verb, words, input));
     let lines = either(lines, cedar_row_schemas::answer(alloc, verb, words, input));
     let lines = either(lines, cedar_row_queries::answer(alloc, verb, words, input));
+    let lines = either(
+        lines,
+        cedar_row_definitions::answer(alloc, verb, words, input),
+    );
     either(lines, cedar_row_verbs::answer(alloc, verb, words, input))
 }
 

@@ -1,5 +1,4 @@
 // SPDX-License-Identifier: Apache-2.0
-use crate::bracketed::Bracketed;
 use crate::qualified_definitions::add_qualified;
 use cedar_data::{Dup, Failure, Mem, NoMemory, Out};
 use cedar_declared::AllDefs;
@@ -7,6 +6,7 @@ use cedar_definitions::{EntityTypeFragment, ValidatorNamespaceDef, ValidatorSche
 use cedar_fragment::{Fragment, NamespaceDefinition, RawName};
 use cedar_names::{Extensions, InternalName, Name, UnreservedId};
 use cedar_namespace_definitions::FromNamespaceDefinition;
+use cedar_row_queries::Bracketed;
 use cedar_row_schemas::error_told;
 use cedar_row_trees::Lines;
 use cedar_schema::FragmentText;

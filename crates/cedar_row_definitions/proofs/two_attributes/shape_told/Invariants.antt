@@ -1,5 +1,5 @@
 -- SPDX-License-Identifier: Apache-2.0
-use Rattle.cedar_row_queries.proofs.two_attributes.shape_told.Given as goal
+use Rattle.cedar_row_definitions.proofs.two_attributes.shape_told.Given as goal
 
 -- the new ledger
 abbrev pub ghosts-unfolded : goal.ghosts-unfolded

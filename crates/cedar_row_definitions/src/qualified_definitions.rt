@@ -1,12 +1,11 @@
 // SPDX-License-Identifier: Apache-2.0
-use crate::bracketed::Bracketed;
-use crate::queried_actions::types_told;
 use crate::queried_definitions::Definitions;
 use cedar_complete::FullyQualifyDefinitions;
 use cedar_data::{Dup, Failure, Mem, NoMemory, Out};
 use cedar_declared::AllDefs;
 use cedar_definitions::{ActionFragment, ValidatorApplySpec, ValidatorSchemaFragment};
 use cedar_names::{EntityType, EntityUID, InternalName};
+use cedar_row_queries::{Bracketed, types_told};
 use cedar_row_trees::Lines;
 use cedar_schema_error::SchemaError;
 use std::alloc::Global;

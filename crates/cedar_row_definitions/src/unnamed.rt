@@ -1,10 +1,10 @@
 // SPDX-License-Identifier: Apache-2.0
 use crate::queried_definitions::as_schema_error;
-use crate::queried_schemas::made_told;
 use cedar_data::{Dup, Mem, Out};
 use cedar_fragment::{Fragment, RawName};
 use cedar_names::Extensions;
 use cedar_resolved::ValidatorSchema;
+use cedar_row_queries::made_told;
 use cedar_schema::{FragmentText, FromFragment};
 use cedar_schema_error::SchemaError;
 use cedar_schema_errors::CedarSchemaError;
