@@ -11,6 +11,8 @@ piece of the smaller one being 1. Where JOISTGINGER_PEER names another program,
 each row of the first tables has its time too; it is left out where that program
 is quadratic.
 """
+import subprocess
+
 import generated as texts
 from measure import PEER_COLUMNS, against_peer, best_of_three, print_head, print_row, program_to_time, written
 
@@ -45,6 +47,11 @@ def print_counts(program):
             print_row(shown, n, f"{seconds:.3f}", f"{memory:.0f}", *peer)
 
 
+def json_of_text(program, text):
+    """What the program writes in JSON of a text."""
+    return subprocess.run([program, "to-json"], input=text, stdout=subprocess.PIPE, check=True, text=True).stdout
+
+
 def print_json(program):
     """Texts in JSON."""
     print("\nJSON\n")
@@ -53,6 +60,7 @@ def print_json(program):
     rows = [(f"{n} declarations", full), ("an object of 100,000 keys", texts.json_keys(100000)),
             ("an array of 100,000", texts.json_array(100000)), ("sets nested 100 deep", texts.json_deep(100))]
     rows = [(f"{k} declarations", texts.json_declarations(k)) for k in (100, 1000, 5000)] + rows
+    rows = [(f"{k} of each kind", json_of_text(program, texts.generated(k))) for k in (100, 1000, 5000)] + rows
     for words in (("resolve-json",), ("to-cedar",)):
         for name, text in rows:
             with written(text) as path:
