@@ -1,0 +1,41 @@
+// SPDX-License-Identifier: Apache-2.0
+ghost use Rattle.std.specs.Prelude.{◌≡◌};
+ghost use Rattle.cedar_convert_fragment.specs.Views.{fragment_seen};
+ghost use Rattle.cedar_data.specs.Answers.{Accepts};
+ghost use Rattle.cedar_fragment_world.specs.FragmentWorlds.{world_of_fragment};
+ghost use Rattle.cedar_json_written_laws.specs.Writable.{WritableFragment};
+ghost use Rattle.cedar_names.specs.Extensions.{extension_words};
+ghost use Rattle.cedar_phases.specs.SchemaViews.{schema_in};
+ghost use Rattle.cedar_schema.specs.Fragments.{SoundFragment};
+ghost use Rattle.cedar_schema_error.specs.declared.action_behavior.ActionBehavior.TheVariants.{ProhibitAttributes};
+ghost use Rattle.cedar_world.specs.Denotes.{Denotes};
+
+use crate::laws::{places_denote_nothing, what_is_written_denotes_the_same};
+use cedar_data::Out;
+use cedar_fragment::{Fragment, RawName};
+use cedar_json_write::ToJson;
+use cedar_names::Extensions;
+use cedar_resolved::ValidatorSchema;
+use cedar_schema_error::SchemaError;
+use cedar_schema_json::SchemaJson;
+use std::alloc::Global;
+
+/// The schema that is read back from what is written of a fragment in JSON. Where the fragment is sound and may be
+/// written, it is the schema that the fragment denotes, and is not refused.
+pub fn written_and_read_back(
+    alloc: Global,
+    fragment: &Fragment<RawName>,
+    extensions: &Extensions,
+) -> Out<ValidatorSchema, SchemaError>
+    ensures { WritableFragment fragment.now
+        → SoundFragment ProhibitAttributes (extension_words extensions.now)
+        (fragment_seen fragment.now)
+        → Accepts (λ schema. Denotes
+        (world_of_fragment (fragment_seen fragment.now) (extension_words extensions.now))
+        (schema_in schema)) result }
+{
+    places_denote_nothing();
+    what_is_written_denotes_the_same();
+    let json = fragment.to_json_value(alloc)?;
+    ValidatorSchema::from_json_value(alloc, &json, extensions)
+}
