@@ -96,7 +96,7 @@ def print_conversion(program):
     print("\nFrom the text to the fragment\n")
     print_head("text", "bytes", "seconds (processor)", "peak MB", "us per byte", "of a byte of plain text")
     plain = None
-    for name, make, n, _ in CONVERSION:
+    for name, make, n, _ in [*CONVERSION, ("100,000 declarations of a name", texts.short, 100000, 0)]:
         text = "entity Action;\n" + make(n)
         seconds, memory = timed(program, text, ("check",), 1)
         cost = 1e6 * seconds / len(text)

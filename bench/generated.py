@@ -38,6 +38,11 @@ def plain(n):
     return "".join(f"entity Entity{i} {{ name: String, next: Entity{(i + 1) % n} }};\n" for i in range(n))
 
 
+def short(n):
+    """Declarations of nothing but a name."""
+    return "".join(f"entity E{i};\n" for i in range(n))
+
+
 def many_names(n):
     return "entity " + ", ".join(f"Name{i}" for i in range(n)) + " { a: Long };"
 
