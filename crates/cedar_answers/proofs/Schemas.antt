@@ -6,9 +6,9 @@ use Rattle.cedar_data.specs.Answers.{IfRefused}
 use Rattle.cedar_data.specs.declared.memory.Failure.{Failure}
 use Rattle.cedar_data.specs.declared.memory.Failure.TheVariants.{Refused, NoMemory}
 use Rattle.cedar_listing.specs.Listing.{listing}
-use Rattle.cedar_phases.specs.SchemaViews.{IsNamed, schema_in}
+use Rattle.cedar_schema_json.specs.SchemaViews.{IsNamed, schema_in}
 use Rattle.cedar_resolved.specs.declared.schema.ValidatorSchema.{ValidatorSchema}
-use Rattle.cedar_schema.specs.Texts.{DenotesSchema, TextCause}
+use Rattle.cedar_schema_json.specs.Texts.{DenotesSchema, TextCause}
 use Rattle.cedar_schema_errors.specs.declared.schema_error.CedarSchemaError.{CedarSchemaError}
 use Rattle.cedar_schema_errors.specs.declared.schema_error.CedarSchemaError.TheVariants.{Parsing, Schema}
 use Rattle.cedar_answers.specs.Causes.{JsonTextCause}

@@ -19,10 +19,10 @@ use Rattle.cedar_json_fault.specs.declared.json_error.JsonDeserializationError.{
 use Rattle.cedar_json_write.specs.Written.{fragment_json}
 use Rattle.cedar_listing.specs.Counts.{counts}
 use Rattle.cedar_listing.specs.Listing.{listing}
-use Rattle.cedar_phases.specs.SchemaViews.{IsNamed, schema_in}
+use Rattle.cedar_schema_json.specs.SchemaViews.{IsNamed, schema_in}
 use Rattle.cedar_print.specs.Pieces.{text_of}
 use Rattle.cedar_resolved.specs.declared.schema.ValidatorSchema.{ValidatorSchema}
-use Rattle.cedar_schema.specs.Texts.{DenotesSchema, IsWellFormed, ParsingCause, TextCause}
+use Rattle.cedar_schema_json.specs.Texts.{DenotesSchema, IsWellFormed, ParsingCause, TextCause}
 use Rattle.cedar_schema_error.specs.declared.schema_error.SchemaError.{SchemaError}
 use Rattle.cedar_schema_error.specs.declared.schema_error.SchemaError.TheVariants.{JsonDeserialization}
 use Rattle.cedar_schema_errors.specs.declared.schema_error.CedarSchemaError.{CedarSchemaError}

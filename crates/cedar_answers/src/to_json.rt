@@ -16,7 +16,7 @@ use cedar_data::{Failure, Mem, Out};
 use cedar_fragment::{Fragment, RawName};
 use cedar_json_write::fragment_text;
 use cedar_names::Extensions;
-use cedar_schema::FragmentText;
+use cedar_schema_json::FragmentText;
 use cedar_streams::Sink;
 use std::alloc::Global;
 

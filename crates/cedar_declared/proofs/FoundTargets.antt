@@ -5,7 +5,7 @@ use Rattle.std.specs.List.{find}
 use Rattle.cedar_names.specs.Components.{components}
 use Rattle.cedar_names.specs.declared.internal_name.InternalName.{InternalName}
 use Rattle.cedar_text.specs.Lists.{elements}
-use Rattle.cedar_fragment.specs.ActionUids.{over_conditional, uid_of}
+use Rattle.cedar_definitions.specs.ActionUids.{over_conditional, uid_of}
 use Rattle.cedar_written.specs.Possibilities.{kind_of, possibilities_of}
 use Rattle.cedar_written.specs.declared.conditional_name.ConditionalName.{ConditionalName}
 use Rattle.cedar_written.specs.declared.reference_type.ReferenceType.{ReferenceType}

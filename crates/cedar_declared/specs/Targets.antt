@@ -7,7 +7,7 @@ use Rattle.std.specs.declared.result.Result.TheVariants.{Ok, Err}
 use Rattle.cedar_text.specs.Lists.{elements}
 use Rattle.cedar_names.specs.Components.{components}
 use Rattle.cedar_names.specs.declared.internal_name.InternalName.{InternalName}
-use Rattle.cedar_fragment.specs.ActionUids.{over_conditional, uid_of}
+use Rattle.cedar_definitions.specs.ActionUids.{over_conditional, uid_of}
 use Rattle.cedar_written.specs.Possibilities.{kind_of, leading, possibilities_of, unconditional, written}
 use Rattle.cedar_written.specs.Qualifying.{action_name}
 use Rattle.cedar_written.specs.Reference.{Reference, named, parent}

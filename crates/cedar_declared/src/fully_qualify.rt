@@ -2,15 +2,15 @@
 ghost use Rattle.std.specs.Prelude.{◌≡◌};
 ghost use Rattle.cedar_written.specs.Answers.{Answers};
 ghost use Rattle.cedar_written.specs.Through.{through_attribute, through_record, through_type, through_variant};
-ghost use Rattle.cedar_fragment.specs.ActionUids.{over_conditional, over_internal};
-ghost use Rattle.cedar_fragment.specs.Definitions.{through_action, through_apply, through_entity, through_namespace, through_shape, through_uid};
+ghost use Rattle.cedar_definitions.specs.ActionUids.{over_conditional, over_internal};
+ghost use Rattle.cedar_definitions.specs.Definitions.{through_action, through_apply, through_entity, through_namespace, through_shape, through_uid};
 ghost use Rattle.cedar_declared.specs.Held.{names_of};
 ghost use Rattle.cedar_declared.specs.Targets.{resolving};
 
 use crate::all_defs::AllDefs;
 use crate::resolving::Resolving;
 use cedar_data::Out;
-use cedar_fragment::{
+use cedar_definitions::{
     ActionEntityUID, ActionType, ApplySpec, AttributesOrContext, ConditionalName, EntityType,
     NamespaceDefinition, RecordType, SchemaType, TypeOfAttribute, TypeVariant, Walk,
 };

@@ -2,7 +2,7 @@
 ghost use Rattle.std.specs.Prelude.{◌≡◌, ℕ, List};
 ghost use Rattle.std.specs.Option.{option_map};
 ghost use Rattle.cedar_names.specs.Components.{components};
-ghost use Rattle.cedar_fragment.specs.ActionUids.{over_conditional, uid_of};
+ghost use Rattle.cedar_definitions.specs.ActionUids.{over_conditional, uid_of};
 ghost use Rattle.cedar_written.specs.declared.conditional_name.ConditionalName.{ConditionalName};
 ghost use Rattle.cedar_schema_error.specs.NameReferences.{action_reference_of, reference_of};
 ghost use Rattle.cedar_declared.specs.Names.{Names, SameNames, action_target, target};

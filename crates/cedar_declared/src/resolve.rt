@@ -9,7 +9,7 @@ ghost use Rattle.cedar_declared.specs.Names.{is_declared};
 ghost use Rattle.cedar_declared.specs.Targets.{found, resolved};
 
 use crate::all_defs::AllDefs;
-use cedar_fragment::{ConditionalName, ReferenceType};
+use cedar_definitions::{ConditionalName, ReferenceType};
 use cedar_names::InternalName;
 use cedar_schema_error::TypeNotDefinedError;
 use cedar_text::NonEmpty;

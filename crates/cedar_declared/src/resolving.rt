@@ -11,7 +11,7 @@ ghost use Rattle.cedar_declared.specs.Targets.{action_at, found_action, parent_t
 use crate::all_defs::AllDefs;
 use crate::resolve::ResolveName;
 use cedar_data::{Dup, Failure, Mem, Out, Text};
-use cedar_fragment::{ActionEntityUID, ConditionalName, ReferenceType, Step, type_or_action};
+use cedar_definitions::{ActionEntityUID, ConditionalName, ReferenceType, Step, type_or_action};
 use cedar_names::{Eid, EntityType, EntityUID, InternalName, Name};
 use cedar_schema_error::{ActionNotDefinedError, SchemaError};
 use cedar_text::NonEmpty;

@@ -1,4 +1,6 @@
 -- SPDX-License-Identifier: Apache-2.0
+pub use Rattle.cedar_fragment.specs.Definitions
+pub use Rattle.cedar_fragment.specs.ActionUids
 pub mod CommonDefs
 pub mod Structures
 pub mod Walks

@@ -9,6 +9,11 @@ mod structures;
 mod walks;
 
 pub use calls::{ActionNameIter, CommonNameIter, EntityNameIter};
+pub use cedar_fragment::{
+    ActionEntityUID, ActionType, ApplySpec, AttributesOrContext, ConditionalName, EntityType,
+    NamespaceDefinition, RecordType, ReferenceType, SchemaType, Step, TypeOfAttribute, TypeVariant,
+    Walk, type_or_action,
+};
 pub use structures::{
     ActionFragment, ActionsDef, CommonTypeDefs, EntityTypeFragment, EntityTypesDef,
     ValidatorApplySpec, ValidatorNamespaceDef, ValidatorSchemaFragment,

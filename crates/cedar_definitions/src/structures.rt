@@ -1,9 +1,8 @@
 // SPDX-License-Identifier: Apache-2.0
 use cedar_data::{Items, Map, Set, Text};
-use cedar_fragment::{ActionEntityUID, AttributesOrContext};
+use cedar_fragment::{ActionEntityUID, Attributes, AttributesOrContext, ValueMap};
 use cedar_names::{EntityType, EntityUID, InternalName};
 use cedar_text::{Loc, NonEmpty};
-use cedar_types::{Attributes, ValueMap};
 use cedar_written::{RefName, SchemaType};
 
 /// A list of namespace definitions, over names `N`, where actions apply to names `A`.

@@ -1,4 +1,6 @@
 -- SPDX-License-Identifier: Apache-2.0
+pub use Rattle.cedar_json_fault.specs.JsonTexts
+pub use Rattle.cedar_json_fault.specs.JsonErrors
 pub mod ActionUids
 pub mod Definitions
 pub mod Printed

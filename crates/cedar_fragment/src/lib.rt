@@ -20,7 +20,9 @@ pub use attributes_or_context::AttributesOrContext;
 pub use cedar_json_fault::{
     JsonDeserializationAdvice, JsonDeserializationError, JsonFault, JsonKind, JsonShape, NameKind,
 };
-pub use cedar_types::{CedarValueJson, ValueList, ValueListIter, ValueMap, ValueMapIter};
+pub use cedar_types::{
+    Attributes, CedarValueJson, ValueList, ValueListIter, ValueMap, ValueMapIter,
+};
 pub use cedar_written::{
     CommonTypeId, ConditionalName, Never, Qualifying, RawName, RecordType, RefName, ReferenceType,
     ReservedCommonTypeBasenameError, SchemaType, Step, Type, TypeOfAttribute, TypeVariant, Walk,

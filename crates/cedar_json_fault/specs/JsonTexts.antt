@@ -2,8 +2,8 @@
 -- What is said of the faults of a schema in JSON.
 use Rattle.std.specs.Prelude.{ℕ, List, [], ◌∷◌, ◌++◌, codes}
 use Rattle.std.specs.List.{flat_map}
-use Rattle.cedar_text.specs.FaultTexts.{name_fault_text}
-use Rattle.cedar_names.specs.Identifiers.{unreserved_word}
+use Rattle.cedar_written.specs.FaultTexts.{name_fault_text}
+use Rattle.cedar_written.specs.Identifiers.{unreserved_word}
 use Rattle.cedar_written.specs.CommonTypeIds.{reserved_basename_text}
 use Rattle.cedar_json_fault.specs.declared.json_error.JsonDeserializationAdvice.{JsonDeserializationAdvice}
 use Rattle.cedar_json_fault.specs.declared.json_error.JsonDeserializationAdvice.TheVariants as advice

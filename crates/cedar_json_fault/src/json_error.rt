@@ -7,7 +7,7 @@ ghost use Rattle.cedar_json_fault.specs.JsonTexts.{advice_text, fault_text};
 
 use crate::json_fault::JsonFault;
 use cedar_data::{Dup, Items, Mem, Text};
-use cedar_text::Span;
+use cedar_written::Span;
 use std::alloc::Global;
 use std::error::Error;
 use std::fmt;

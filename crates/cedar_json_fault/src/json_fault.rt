@@ -5,9 +5,7 @@ ghost use Rattle.cedar_json_fault.specs.JsonTexts.{listed, others_text};
 ghost use Rattle.cedar_json_fault.specs.declared.json_fault.JsonFault.TheVariants.{InvalidName};
 
 use cedar_data::{Dup, Items, Mem, Text};
-use cedar_names::UnreservedId;
-use cedar_text::NameFault;
-use cedar_written::ReservedCommonTypeBasenameError;
+use cedar_written::{NameFault, ReservedCommonTypeBasenameError, UnreservedId};
 use std::alloc::Global;
 use std::fmt;
 

@@ -10,9 +10,9 @@ use Rattle.cedar_fragment_world.specs.FragmentWorlds.{world_of_fragment}
 use Rattle.cedar_json_namespaces.specs.Namespaces.{IsFragment}
 use Rattle.cedar_json_write.specs.Written.{fragment_json}
 use Rattle.cedar_json_written_laws.specs.Unplaced.{fragment_unplaced}
-use Rattle.cedar_schema.proofs.Declaring.{one_declared}
-use Rattle.cedar_schema.specs.Fragments.{SoundFragment}
-use Rattle.cedar_schema.specs.Texts as text
+use Rattle.cedar_schema_json.proofs.Declaring.{one_declared}
+use Rattle.cedar_schema_json.specs.Fragments.{SoundFragment}
+use Rattle.cedar_schema_json.specs.Texts as text
 use Rattle.cedar_schema_error.specs.declared.action_behavior.ActionBehavior.TheVariants.{ProhibitAttributes}
 use Rattle.cedar_schema_json.specs.JsonSchemas.{DenotesSchema, IsWellFormed}
 use Rattle.cedar_sound.specs.Sound.{Sound}

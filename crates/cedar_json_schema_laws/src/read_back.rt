@@ -5,8 +5,8 @@ ghost use Rattle.cedar_data.specs.Answers.{Accepts};
 ghost use Rattle.cedar_fragment_world.specs.FragmentWorlds.{world_of_fragment};
 ghost use Rattle.cedar_json_written_laws.specs.Writable.{WritableFragment};
 ghost use Rattle.cedar_names.specs.Extensions.{extension_words};
-ghost use Rattle.cedar_phases.specs.SchemaViews.{schema_in};
-ghost use Rattle.cedar_schema.specs.Fragments.{SoundFragment};
+ghost use Rattle.cedar_schema_json.specs.SchemaViews.{schema_in};
+ghost use Rattle.cedar_schema_json.specs.Fragments.{SoundFragment};
 ghost use Rattle.cedar_schema_error.specs.declared.action_behavior.ActionBehavior.TheVariants.{ProhibitAttributes};
 ghost use Rattle.cedar_world.specs.Denotes.{Denotes};
 

@@ -1,4 +1,7 @@
 -- SPDX-License-Identifier: Apache-2.0
+pub use Rattle.cedar_text.specs.Lists
+pub use Rattle.cedar_text.specs.Joining
+pub use Rattle.cedar_text.specs.Escapes
 pub use Rattle.cedar_data.specs.Maps
 pub use Rattle.cedar_data.specs.Sets
 pub use Rattle.cedar_data.specs.formers

@@ -1,4 +1,6 @@
 -- SPDX-License-Identifier: Apache-2.0
+pub use Rattle.cedar_sound.proofs.Refusing
+pub use Rattle.cedar_sound.proofs.OneSchema
 pub mod Agreeing
 pub mod Assembled
 pub mod Carried

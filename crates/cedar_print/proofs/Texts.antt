@@ -6,8 +6,8 @@ use Rattle.std.proofs.Output.{then_text_assoc}
 use Rattle.std.proofs.lemmas.List.{append-nil}
 use Rattle.std.specs.Fmt.{◌++?◌}
 use Rattle.std.specs.List.{flat_map}
-use Rattle.cedar_data.specs.Maps.{map_values}
-use Rattle.cedar_text.specs.Joining.{joined}
+use Rattle.cedar_names.specs.Maps.{map_values}
+use Rattle.cedar_names.specs.Joining.{joined}
 use Rattle.cedar_names.specs.Annotating.{annotation_entries}
 use Rattle.cedar_names.specs.declared.annotation.Annotations.{Annotations}
 use Rattle.cedar_print.specs.Annotations.{annotation_pieces, annotations_pieces, nameless}

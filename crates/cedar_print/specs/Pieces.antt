@@ -3,7 +3,7 @@
 use Rattle.std.specs.Prelude.{ℕ, Bool, true, false, List, [], ◌∷◌, ◌++◌, Option, Some, codes}
 use Rattle.std.specs.Fmt.{◌++?◌}
 use Rattle.std.specs.List.{flat_map}
-use Rattle.cedar_text.specs.Escapes.{escaped}
+use Rattle.cedar_names.specs.Escapes.{escaped}
 
 -- a word, a mark, a text that is quoted, a name that shows itself, or blanks
 pub data Piece (N : Type 0) : Type 0 where

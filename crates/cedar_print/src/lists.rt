@@ -1,13 +1,12 @@
 // SPDX-License-Identifier: Apache-2.0
 ghost use Rattle.std.specs.Prelude.{◌++◌};
 ghost use Rattle.std.specs.Fmt.{DisplaysOnOk};
-ghost use Rattle.cedar_text.specs.Lists.{elements};
+ghost use Rattle.cedar_names.specs.Lists.{elements};
 ghost use Rattle.cedar_print.specs.Annotations.{nameless};
 ghost use Rattle.cedar_print.specs.Pieces.{bracketed, comma, following, named, quoted_alone, separated, text_of};
 
 use crate::quoted::Quoted;
-use cedar_data::{Items, Text};
-use cedar_text::NonEmpty;
+use cedar_names::{Items, NonEmpty, Text};
 use std::fmt;
 
 /// Writes the items in brackets, with `, ` between them.

@@ -2,8 +2,7 @@
 ghost use Rattle.std.specs.Prelude.{Some};
 ghost use Rattle.cedar_print.specs.Pieces.{quoted_text};
 
-use cedar_data::Text;
-use cedar_text::Escaped;
+use cedar_names::{Escaped, Text};
 use std::fmt;
 
 /// A text that is displayed between quotes, as it stands in a string literal.

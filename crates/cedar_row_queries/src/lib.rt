@@ -11,6 +11,9 @@ mod queried_types;
 
 pub use bracketed::Bracketed;
 use cedar_data::Mem;
+pub use cedar_row_schemas::{
+    FragmentText, FromFragment, add_attributes, add_view, error_told, schema_of,
+};
 pub use checking::checked;
 pub use made_schemas::made_queries;
 pub use queried_actions::types_told;

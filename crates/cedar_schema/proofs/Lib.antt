@@ -1,4 +1,5 @@
 -- SPDX-License-Identifier: Apache-2.0
+pub use Rattle.cedar_phases.proofs.OneSchema
 pub mod Declaring
 pub mod Refusing
 pub mod Fragmented

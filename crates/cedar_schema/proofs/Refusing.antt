@@ -27,8 +27,8 @@ use Rattle.cedar_schema_error.specs.declared.action_behavior.ActionBehavior.{Act
 use Rattle.cedar_schema_error.specs.declared.action_behavior.ActionBehavior.TheVariants.{ProhibitAttributes}
 use Rattle.cedar_schema_errors.specs.declared.schema_error.CedarSchemaError.{CedarSchemaError}
 use Rattle.cedar_schema_errors.specs.declared.schema_error.CedarSchemaError.TheVariants.{Parsing, Schema}
-use Rattle.cedar_sound.proofs.OneSchema.{one_schema}
-use Rattle.cedar_sound.proofs.Refusing.{one_cause, sound_or_refused}
+use Rattle.cedar_phases.proofs.OneSchema.{one_schema}
+use Rattle.cedar_phases.proofs.Refusing.{one_cause, sound_or_refused}
 use Rattle.cedar_world.specs.Denotes.{Denotes}
 use Rattle.cedar_world.specs.Schemas as schemas
 

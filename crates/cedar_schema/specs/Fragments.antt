@@ -7,7 +7,7 @@ use Rattle.cedar_fragment_world.specs.FragmentFaults.{fragment_faults}
 use Rattle.cedar_fragment_world.specs.FragmentWorlds.{world_of_fragment}
 use Rattle.cedar_schema_error.specs.Refusals.{Refusal}
 use Rattle.cedar_schema_error.specs.declared.action_behavior.ActionBehavior.{ActionBehavior}
-use Rattle.cedar_sound.specs.Sound.{Cause, Sound}
+use Rattle.cedar_phases.specs.Sound.{Cause, Sound}
 
 -- the words of all extension types that there are
 abbrev pub all_extensions : List (List ℕ)

@@ -1,4 +1,5 @@
 -- SPDX-License-Identifier: Apache-2.0
+pub use Rattle.cedar_phases.specs.SchemaViews
 pub use Rattle.cedar_data.specs.formers
 pub mod Fragments
 pub mod Texts

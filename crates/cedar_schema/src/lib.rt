@@ -7,6 +7,7 @@ mod fragments;
 mod laws;
 mod texts;
 
+pub use cedar_phases::FromSchemaFragments;
 pub use fragments::FromFragment;
 pub use laws::{
     declared_or_not, one_declared, one_fragment_cause, one_schema_of_text, one_text_cause,

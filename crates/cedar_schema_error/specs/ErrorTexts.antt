@@ -7,8 +7,8 @@ use Rattle.cedar_names.specs.Components.{components}
 use Rattle.cedar_names.specs.EntityUids.{uid_text}
 use Rattle.cedar_names.specs.Names.{name_words}
 use Rattle.cedar_names.specs.declared.internal_name.InternalName.{InternalName}
-use Rattle.cedar_json_fault.specs.JsonErrors.{advice_of, fault_of}
-use Rattle.cedar_json_fault.specs.JsonTexts.{advice_text, fault_text}
+use Rattle.cedar_fragment.specs.JsonErrors.{advice_of, fault_of}
+use Rattle.cedar_fragment.specs.JsonTexts.{advice_text, fault_text}
 use Rattle.cedar_written.specs.Possibilities.{kind_of, possibilities_of}
 use Rattle.cedar_written.specs.declared.conditional_name.ConditionalName.{ConditionalName}
 use Rattle.cedar_schema_error.specs.ListTexts.{behind_commas, behind_first, noun}

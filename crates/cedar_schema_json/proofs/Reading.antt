@@ -19,7 +19,7 @@ use Rattle.cedar_schema_error.specs.declared.action_behavior.ActionBehavior.TheV
 use Rattle.cedar_schema_error.specs.declared.schema_error.SchemaError.{SchemaError}
 use Rattle.cedar_schema_error.specs.declared.schema_error.SchemaError.TheVariants.{JsonDeserialization}
 use Rattle.cedar_schema_json.specs.JsonSchemas.{DenotesSchema, IsWellFormed, JsonCause, unread}
-use Rattle.cedar_sound.proofs.OneSchema.{one_schema}
+use Rattle.cedar_schema.proofs.OneSchema.{one_schema}
 use Rattle.cedar_world.specs.Denotes.{Denotes}
 use Rattle.cedar_world.specs.Schemas.{Schema}
 use Rattle.cedar_written.specs.declared.raw_name.RawName.{RawName}

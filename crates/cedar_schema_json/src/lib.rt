@@ -5,5 +5,6 @@
 mod laws;
 mod schemas;
 
+pub use cedar_schema::{FragmentText, FromCedarSchema};
 pub use laws::{one_json_cause, one_json_schema, well_formed_json_or_refused};
 pub use schemas::SchemaJson;

@@ -9,7 +9,7 @@ ghost use Rattle.cedar_fragment_world.specs.FragmentWorlds.{world_of_fragment};
 ghost use Rattle.cedar_json.specs.TextFaults.{IsFragmentText, advised_fault};
 ghost use Rattle.cedar_json_namespaces.specs.Namespaces.{IsFragment, fragment_fault};
 ghost use Rattle.cedar_names.specs.Extensions.{extension_words};
-ghost use Rattle.cedar_phases.specs.SchemaViews.{IsNamed, schema_in};
+ghost use Rattle.cedar_schema.specs.SchemaViews.{IsNamed, schema_in};
 ghost use Rattle.cedar_schema_json.specs.JsonSchemas.{DenotesSchema, IsWellFormed, JsonCause, unread};
 ghost use Rattle.cedar_world.specs.Denotes.{Denotes};
 ghost use Rattle.cedar_written.specs.declared.raw_name.RawName.{RawName as Raw};

@@ -6,7 +6,7 @@ use Rattle.cedar_definitions.specs.declared.structures.ActionFragment.{ActionFra
 use Rattle.cedar_definitions.specs.declared.structures.EntityTypeFragment.{EntityTypeFragment}
 use Rattle.cedar_definitions.specs.declared.structures.EntityTypeFragment.TheVariants as code
 use Rattle.cedar_definitions.specs.declared.structures.ValidatorNamespaceDef.{ValidatorNamespaceDef}
-use Rattle.cedar_fragment.specs.ActionUids.{over_conditional}
+use Rattle.cedar_definitions.specs.ActionUids.{over_conditional}
 use Rattle.cedar_names.specs.Components.{components}
 use Rattle.cedar_names.specs.Names.{entity_words}
 use Rattle.cedar_names.specs.declared.entity_uid.EntityUID.{EntityUID}

@@ -1,4 +1,6 @@
 -- SPDX-License-Identifier: Apache-2.0
+pub use Rattle.cedar_text.specs.FaultTexts
+pub use Rattle.cedar_names.specs.Identifiers
 pub mod Answers
 pub mod Bare
 pub mod CommonTypeIds

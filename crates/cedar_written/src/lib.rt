@@ -18,6 +18,8 @@ mod type_copies;
 mod walk;
 mod walked;
 
+pub use cedar_names::UnreservedId;
+pub use cedar_text::{NameFault, Span};
 pub use common_type_id::{CommonTypeId, ReservedCommonTypeBasenameError};
 pub use conditional_name::ConditionalName;
 pub use laws::types_are_walked_in_order;

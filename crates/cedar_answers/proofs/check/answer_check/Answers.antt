@@ -4,7 +4,7 @@ use Rattle.cedar_convert_warnings.specs.declared.warnings.SchemaWarning.{SchemaW
 use Rattle.cedar_fragment_world.specs.FragmentWorlds.{world_of_fragment}
 use Rattle.cedar_listing.specs.Counts.{counts}
 use Rattle.cedar_names.specs.Extensions.{extension_words}
-use Rattle.cedar_phases.specs.SchemaViews.{schema_in}
+use Rattle.cedar_schema_json.specs.SchemaViews.{schema_in}
 use Rattle.cedar_resolved.specs.declared.schema.ValidatorSchema.{ValidatorSchema}
 use Rattle.cedar_world.specs.Denotes.{Denotes}
 use Rattle.cedar_answers.proofs.ByMade.{made-accepts, made-answers}

@@ -4,7 +4,7 @@ use Rattle.cedar_data.specs.Answers.{Accepts}
 use Rattle.cedar_json_namespaces.specs.Namespaces.{IsFragment}
 use Rattle.cedar_json_written_laws.specs.Unplaced.{fragment_unplaced}
 use Rattle.cedar_names.specs.Extensions.{extension_words}
-use Rattle.cedar_phases.specs.SchemaViews.{schema_in}
+use Rattle.cedar_schema_json.specs.SchemaViews.{schema_in}
 use Rattle.cedar_resolved.specs.declared.schema.ValidatorSchema.{ValidatorSchema}
 use Rattle.cedar_schema_json.specs.JsonSchemas.{IsWellFormed}
 use Rattle.cedar_world.specs.Denotes.{Denotes}

@@ -5,7 +5,7 @@ use Rattle.cedar_fragment.specs.declared.definitions.Fragment.{Fragment}
 use Rattle.cedar_fragment_world.specs.FragmentWorlds.{world_of_fragment}
 use Rattle.cedar_json.specs.TextFaults.{IsFragmentText, advised_fault}
 use Rattle.cedar_names.specs.Extensions.{extension_words}
-use Rattle.cedar_phases.specs.SchemaViews.{schema_in}
+use Rattle.cedar_schema.specs.SchemaViews.{schema_in}
 use Rattle.cedar_resolved.specs.declared.schema.ValidatorSchema.{ValidatorSchema}
 use Rattle.cedar_schema_json.proofs.OneShape.{text_clean, text_once}
 use Rattle.cedar_schema_json.proofs.Reading.{accepts_read, accepts_unread, denotes_read, refused_read}

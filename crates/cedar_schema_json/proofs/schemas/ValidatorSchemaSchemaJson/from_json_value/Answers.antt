@@ -8,7 +8,7 @@ use Rattle.cedar_json_laws.proofs.CleanDeclarations.{fragment_clean}
 use Rattle.cedar_json_laws.proofs.OnceDeclarations.{fragment_once}
 use Rattle.cedar_json_namespaces.specs.Namespaces.{IsFragment, fragment_fault}
 use Rattle.cedar_names.specs.Extensions.{extension_words}
-use Rattle.cedar_phases.specs.SchemaViews.{schema_in}
+use Rattle.cedar_schema.specs.SchemaViews.{schema_in}
 use Rattle.cedar_resolved.specs.declared.schema.ValidatorSchema.{ValidatorSchema}
 use Rattle.cedar_schema_json.proofs.Reading.{accepts_read, accepts_unread, denotes_read, refused_read}
 use Rattle.cedar_world.specs.Denotes.{Denotes}
