@@ -140,12 +140,13 @@ impl<'s> Parser<'s> {
         ensures { IfOk result (λ namespace. annotated_tree namespace_tree namespace
             ≡ alone (annotations_tree annotations) (node_of decl_tree item)) }
     {
-        let mut decls = Items::new(self.alloc);
+        // Room for one: a text may have many of these, and an empty list would take room for four.
+        let mut decls = Vec::with_capacity(self.alloc, 1)?;
         decls.push(Annotated { item, annotations })?;
         Ok(Annotated {
             item: Namespace {
                 name: None,
-                decls,
+                decls: Items::from_vec(decls),
                 loc: None,
             },
             annotations: Annotations::new(self.alloc),
