@@ -5,12 +5,13 @@ pub mod Annotations
 pub mod Choices
 pub mod Entities
 pub mod FreshKeys
-pub mod Identified
 pub mod Levels
 pub mod Lifting
 pub mod Lists
+pub mod MapsSorted
 pub mod Moving
 pub mod Names
+pub mod Read
 pub mod Readers
 pub mod Schemas
 pub mod Tokens

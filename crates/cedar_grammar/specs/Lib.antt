@@ -1,6 +1,6 @@
 -- SPDX-License-Identifier: Apache-2.0
 pub mod Grammar
-pub mod Identifying
+pub mod AsRead
 pub mod Productions
 pub mod Reading
 pub mod Stops

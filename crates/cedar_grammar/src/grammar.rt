@@ -2,7 +2,7 @@
 ghost use Rattle.std.specs.Prelude.{◌↔◌, ◌≡◌, ◌≤◌, ◌++◌, ℕ, List, [], Ok};
 ghost use Rattle.cedar_tokens.specs.Lexemes.{TextToken};
 ghost use Rattle.cedar_grammar.specs.Grammar.{schema, type_upto, Reads, Viable};
-ghost use Rattle.cedar_grammar.specs.Identifying.{SchemaOfIds};
+ghost use Rattle.cedar_grammar.specs.AsRead.{SchemaAsRead};
 ghost use Rattle.cedar_grammar.specs.Productions.{Completable};
 ghost use Rattle.cedar_grammar.specs.Reading.{schema_at};
 ghost use Rattle.cedar_grammar.specs.Stops.{Finds};
@@ -38,9 +38,10 @@ pub fn reading_finds()
     ensures found { (ts : List TextToken) (s : Schema) → Reads ts s → schema_at ts ≡ Ok (s, []) }
 {}
 
-/// A law with no work to do: wherever the grammar has an identifier, one stands in what was read.
+/// A law with no work to do: wherever the grammar has an identifier, one stands in what was read,
+/// and its annotations are in the order of their keys.
 pub fn identifiers_read()
-    ensures { (ts : List TextToken) (s : Schema) → Reads ts s → SchemaOfIds s }
+    ensures { (ts : List TextToken) (s : Schema) → Reads ts s → SchemaAsRead s }
 {}
 
 /// A law with no work to do: tokens are one schema at most, places included.

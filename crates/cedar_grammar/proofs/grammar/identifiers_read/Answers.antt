@@ -1,6 +1,6 @@
 -- SPDX-License-Identifier: Apache-2.0
-use Rattle.cedar_grammar.proofs.Identified.{read_of_ids}
+use Rattle.cedar_grammar.proofs.Read.{read_as_read}
 use Rattle.cedar_grammar.proofs.grammar.identifiers_read.Goals as goal
 
 pub returns : goal.returns
-returns c = read_of_ids
+returns c = read_as_read

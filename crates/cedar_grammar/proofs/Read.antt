@@ -1,13 +1,16 @@
 -- SPDX-License-Identifier: Apache-2.0
--- What the grammar reads has identifiers where identifiers stand.
+-- What the grammar reads has identifiers where identifiers stand, and annotations in the order of their keys.
 use Rattle.std.proofs.Common.{◌≡◌, ℕ, zero, suc, Bool, true, false, if◌then◌else◌, IsTrue, List, [], ◌∷◌, map, All, Option, Some, None, IfSome, option_map, codes, sym, subst, inl, inr}
+use Rattle.std.proofs.lemmas.Cmp.{nat_list_cmp_total}
 use Rattle.std.proofs.lemmas.List.Elements.{All-nil, All-cons, All-head, All-tail, All-map}
+use Rattle.cedar_names.specs.Order.{word_cmp}
 use Rattle.cedar_tokens.specs.Lexemes.{TextToken}
 use Rattle.cedar_text.specs.Words.{is_id}
-use Rattle.cedar_grammar.specs.Productions.{Production, gives, ◌>>=◌, ◌>>◌, ◌∣◌, ReadsMany, none, more, many, optional, maybe, separated, trailing}
-use Rattle.cedar_tree.specs.Trees.{Node, Place, Text, stands, placed, Annotated, TypeTree, Set, attrs_of, no_attrs, AttrDecl, ContextDecl, Named, Shape, Types, Context, Declaration, Namespace, Schema}
-use Rattle.cedar_grammar.specs.Grammar.{at_token, text_where, is_ident_token, keyword, mark, ident, idents, names, path_of, path, bracketed, commas, str, name, types, one_or_list, qualified, ref, refs, annotated, annots, attr_of, attr_decl, record_type, pr, context_type, app_decl, set_type, as_record, as_name, type_upto, tags_clause, shape_at, behind_shape, shape_decl, standard_entity, enum_entity, applies_to, attributes_tail, action_decl, type_decl, decl, namespace, alone, item_behind, schema, Reads}
-use Rattle.cedar_grammar.specs.Identifying.{IsIdent, OfIds, TypeOfIds, AttrsOfIds, ShapeOfIds, RefOfIds, AppOfIds, DeclOfIds, NamespaceOfIds, SchemaOfIds}
+use Rattle.cedar_grammar.specs.Productions.{Production, gives, ◌>>=◌, ◌>>◌, ◌∣◌, each, ReadsMany, none, more, many, optional, maybe, separated, trailing}
+use Rattle.cedar_tree.specs.Trees.{Node, Place, Text, stands, placed, Annotated, TypeTree, Set, attrs_of, no_attrs, AttrDecl, ContextDecl, Named, Shape, Types, Context, Declaration, Namespace, Schema, by_key}
+use Rattle.cedar_grammar.specs.Grammar.{at_token, text_where, is_ident_token, keyword, mark, ident, idents, names, path_of, path, bracketed, commas, str, name, types, one_or_list, qualified, ref, refs, annotation, annotated, annots, attr_of, attr_decl, record_type, pr, context_type, app_decl, set_type, as_record, as_name, type_upto, tags_clause, shape_at, behind_shape, shape_decl, standard_entity, enum_entity, applies_to, attributes_tail, action_decl, type_decl, decl, namespace, alone, item_behind, schema, Reads}
+use Rattle.cedar_grammar.specs.AsRead.{IsIdent, OfIds, InOrder, TypeAsRead, AttrsAsRead, ShapeAsRead, RefOfIds, AppAsRead, DeclAsRead, AnnotatedAsRead, NamespaceAsRead, SchemaAsRead}
+use Rattle.cedar_grammar.proofs.MapsSorted.{map_of-sorted}
 use Rattle.cedar_grammar.proofs.Tokens.{passes, ident_is}
 
 -- what R reads has Q
@@ -78,8 +81,13 @@ one_or_list_holds R Q a =
     (bracketed_holds (codes "[") (codes "]") (commas R ∣ gives []) (All Q)
     (either_holds (commas R) (gives []) (All Q) (commas_holds R Q a) (gives_holds (All Q) [] (All-nil Q))))
 
-annotated_holds : {A : Type 0} (R : Production TextToken A) (Q : A → Type 0) → Holds R Q → Holds (annotated R) (λ a. Q a.item)
-annotated_holds R Q a = rest_holds annots _ _ (λ annotations. then_holds R _ Q _ a (λ x h. gives_holds (λ n. Q n.item) (record { item = x; annotations = annotations }) h))
+annots_hold : Holds annots InOrder
+annots_hold = rest_holds (each annotation) _ InOrder (λ written. gives_holds InOrder (by_key written) (map_of-sorted word_cmp nat_list_cmp_total (map (λ a. (a.node.key, stands a.node.value a.loc)) written)))
+
+annotated_holds : {A : Type 0} (R : Production TextToken A) (Q : A → Type 0) → Holds R Q → Holds (annotated R) (λ a. InOrder a.annotations × Q a.item)
+annotated_holds R Q a =
+    then_holds annots _ InOrder _ annots_hold (λ annotations sorted.
+    then_holds R _ Q _ a (λ x h. gives_holds (λ n. InOrder n.annotations × Q n.item) (record { item = x; annotations = annotations }) (sorted, h)))
 
 -- ---- identifiers and paths
 
@@ -119,31 +127,31 @@ ref_holds =
 
 -- a type at its place
 abbrev TypeAt : Node TypeTree → Type 0
-TypeAt t = TypeOfIds t.node
+TypeAt t = TypeAsRead t.node
 
--- the type of an attribute
+-- an attribute
 abbrev AttrAt : Annotated (Node AttrDecl) → Type 0
-AttrAt a = TypeOfIds a.item.node.ty.node
+AttrAt a = InOrder a.annotations × TypeAsRead a.item.node.ty.node
 
-attrs_hold : (xs : List (Annotated (Node AttrDecl))) → All AttrAt xs → AttrsOfIds (attrs_of xs)
+attrs_hold : (xs : List (Annotated (Node AttrDecl))) → All AttrAt xs → AttrsAsRead (attrs_of xs)
 attrs_hold [] h = tt
-attrs_hold (x ∷ xs) h = (All-head AttrAt x xs h, attrs_hold xs (All-tail AttrAt x xs h))
+attrs_hold (x ∷ xs) h = let here = All-head AttrAt x xs h in (here.0, here.1, attrs_hold xs (All-tail AttrAt x xs h))
 
 module _ (type : Production TextToken (Node TypeTree)) (t : Holds type TypeAt) where
   attr_holds : Holds (attr_decl type) AttrAt
   attr_holds =
-      annotated_holds _ (λ a. TypeOfIds a.node.ty.node)
+      annotated_holds _ (λ a. TypeAsRead a.node.ty.node)
       (rest_holds name _ _ (λ n.
       rest_holds (optional (mark (codes "?"))) _ _ (λ question.
       rest_holds (mark (codes ":")) _ _ (λ _.
-      then_holds type _ TypeAt _ t (λ ty h. gives_holds (λ a. TypeOfIds a.node.ty.node) (attr_of n question ty) h)))))
+      then_holds type _ TypeAt _ t (λ ty h. gives_holds (λ a. TypeAsRead a.node.ty.node) (attr_of n question ty) h)))))
 
-  record_holds : Holds (record_type type) (λ r. AttrsOfIds r.node)
+  record_holds : Holds (record_type type) (λ r. AttrsAsRead r.node)
   record_holds =
-      bracketed_holds (codes "{") (codes "}") _ AttrsOfIds
-      (either_holds _ (gives no_attrs) AttrsOfIds
-      (then_holds (trailing (mark (codes ",")) (attr_decl type)) _ (All AttrAt) AttrsOfIds (trailing_holds (mark (codes ",")) (attr_decl type) AttrAt attr_holds) (λ xs hs. gives_holds AttrsOfIds (attrs_of xs) (attrs_hold xs hs)))
-      (gives_holds AttrsOfIds no_attrs tt))
+      bracketed_holds (codes "{") (codes "}") _ AttrsAsRead
+      (either_holds _ (gives no_attrs) AttrsAsRead
+      (then_holds (trailing (mark (codes ",")) (attr_decl type)) _ (All AttrAt) AttrsAsRead (trailing_holds (mark (codes ",")) (attr_decl type) AttrAt attr_holds) (λ xs hs. gives_holds AttrsAsRead (attrs_of xs) (attrs_hold xs hs)))
+      (gives_holds AttrsAsRead no_attrs tt))
 
   set_holds : Holds (set_type type) TypeAt
   set_holds =
@@ -151,32 +159,32 @@ module _ (type : Production TextToken (Node TypeTree)) (t : Holds type TypeAt) w
       then_holds (bracketed (codes "<") (codes ">") type) _ (λ n. TypeAt n.node) _ (bracketed_holds (codes "<") (codes ">") type TypeAt t)
       (λ element h. gives_holds TypeAt (placed (Set element.node.node element.node.loc) set.loc element.loc) h))
 
-  context_holds : Holds (context_type type) (λ c. ShapeOfIds c.node)
+  context_holds : Holds (context_type type) (λ c. ShapeAsRead c.node)
   context_holds =
-      either_holds _ _ (λ c. ShapeOfIds c.node)
-      (then_holds path _ OfIds _ path_holds (λ p h. gives_holds (λ c. ShapeOfIds c.node) (stands (Named p) p.loc) h))
-      (then_holds (record_type type) _ (λ r. AttrsOfIds r.node) _ record_holds (λ r h. gives_holds (λ c. ShapeOfIds c.node) (stands (Shape r) r.loc) h))
+      either_holds _ _ (λ c. ShapeAsRead c.node)
+      (then_holds path _ OfIds _ path_holds (λ p h. gives_holds (λ c. ShapeAsRead c.node) (stands (Named p) p.loc) h))
+      (then_holds (record_type type) _ (λ r. AttrsAsRead r.node) _ record_holds (λ r h. gives_holds (λ c. ShapeAsRead c.node) (stands (Shape r) r.loc) h))
 
-  shape_holds : Holds (shape_decl type) ShapeOfIds
+  shape_holds : Holds (shape_decl type) ShapeAsRead
   shape_holds =
-      either_holds _ _ ShapeOfIds
-      (then_holds (optional (mark (codes "=")) >> record_type type) _ (λ r. AttrsOfIds r.node) ShapeOfIds (rest_holds (optional (mark (codes "="))) (λ _. record_type type) _ (λ _. record_holds)) (λ r h. gives_holds ShapeOfIds (Shape r) h))
-      (then_holds (mark (codes "=") >> path) _ OfIds ShapeOfIds (rest_holds (mark (codes "=")) (λ _. path) OfIds (λ _. path_holds)) (λ p h. gives_holds ShapeOfIds (Named p) h))
+      either_holds _ _ ShapeAsRead
+      (then_holds (optional (mark (codes "=")) >> record_type type) _ (λ r. AttrsAsRead r.node) ShapeAsRead (rest_holds (optional (mark (codes "="))) (λ _. record_type type) _ (λ _. record_holds)) (λ r h. gives_holds ShapeAsRead (Shape r) h))
+      (then_holds (mark (codes "=") >> path) _ OfIds ShapeAsRead (rest_holds (mark (codes "=")) (λ _. path) OfIds (λ _. path_holds)) (λ p h. gives_holds ShapeAsRead (Named p) h))
 
-  app_holds : Holds (app_decl type) (λ d. AppOfIds d.node)
+  app_holds : Holds (app_decl type) (λ d. AppAsRead d.node)
   app_holds =
-      either_holds _ _ (λ d. AppOfIds d.node)
+      either_holds _ _ (λ d. AppAsRead d.node)
       (rest_holds pr _ _ (λ which.
       rest_holds (mark (codes ":")) _ _ (λ _.
-      then_holds types _ (λ n. All OfIds n.node) _ types_hold (λ ts h. gives_holds (λ d. AppOfIds d.node) (placed (Types which ts.node) which.loc ts.loc) h))))
+      then_holds types _ (λ n. All OfIds n.node) _ types_hold (λ ts h. gives_holds (λ d. AppAsRead d.node) (placed (Types which ts.node) which.loc ts.loc) h))))
       (rest_holds (keyword (codes "context")) _ _ (λ context.
       rest_holds (mark (codes ":")) _ _ (λ _.
-      then_holds (context_type type) _ (λ c. ShapeOfIds c.node) _ context_holds (λ c h. gives_holds (λ d. AppOfIds d.node) (placed (Context c.node) context.loc c.loc) h))))
+      then_holds (context_type type) _ (λ c. ShapeAsRead c.node) _ context_holds (λ c h. gives_holds (λ d. AppAsRead d.node) (placed (Context c.node) context.loc c.loc) h))))
 
-  applies_hold : Holds (applies_to type) (λ lines. All (λ d. AppOfIds d.node) lines.node)
+  applies_hold : Holds (applies_to type) (λ lines. All (λ d. AppAsRead d.node) lines.node)
   applies_hold =
       rest_holds (keyword (codes "appliesTo")) _ _ (λ _.
-      bracketed_holds (codes "{") (codes "}") (trailing (mark (codes ",")) (app_decl type)) (All (λ d. AppOfIds d.node)) (trailing_holds (mark (codes ",")) (app_decl type) _ app_holds))
+      bracketed_holds (codes "{") (codes "}") (trailing (mark (codes ",")) (app_decl type)) (All (λ d. AppAsRead d.node)) (trailing_holds (mark (codes ",")) (app_decl type) _ app_holds))
 
   tags_hold : Holds (tags_clause type) (λ p. TypeAt p.1)
   tags_hold = rest_holds (keyword (codes "tags")) _ _ (λ tags. then_holds type _ TypeAt _ t (λ ty h. gives_holds (λ p. TypeAt p.1) (tags.loc, ty) h))
@@ -185,10 +193,10 @@ module _ (type : Production TextToken (Node TypeTree)) (t : Holds type TypeAt) w
 
   -- a declaration at its place
   abbrev DeclAt : Node Declaration → Type 0
-  DeclAt d = DeclOfIds d.node
+  DeclAt d = DeclAsRead d.node
 
   -- the shape, or the empty record
-  shape_there : (shape : Option ContextDecl) (place : Place) → IfSome shape ShapeOfIds → ShapeOfIds (shape_at shape place)
+  shape_there : (shape : Option ContextDecl) (place : Place) → IfSome shape ShapeAsRead → ShapeAsRead (shape_at shape place)
   shape_there None place h = tt
   shape_there (Some shape) place h = h
 
@@ -205,7 +213,7 @@ module _ (type : Production TextToken (Node TypeTree)) (t : Holds type TypeAt) w
       (then_holds (keyword (codes "in") >> types) _ (λ n. All OfIds n.node) (All OfIds) (rest_holds (keyword (codes "in")) (λ _. types) _ (λ _. types_hold)) (λ ps h. gives_holds (All OfIds) ps.node h))
       (gives_holds (All OfIds) [] (All-nil OfIds)))
       (λ parents above.
-      then_holds (maybe (shape_decl type)) _ (λ o. IfSome o ShapeOfIds) DeclAt (maybe_holds (shape_decl type) ShapeOfIds shape_holds) (λ shape sound.
+      then_holds (maybe (shape_decl type)) _ (λ o. IfSome o ShapeAsRead) DeclAt (maybe_holds (shape_decl type) ShapeAsRead shape_holds) (λ shape sound.
       then_holds (maybe (tags_clause type)) _ (λ o. IfSome o (λ p. TypeAt p.1)) DeclAt (maybe_holds (tags_clause type) (λ p. TypeAt p.1) tags_hold) (λ tags tagged.
       rest_holds (mark (codes ";")) _ DeclAt (λ semicolon.
       gives_holds DeclAt _ (names, above, shape_there shape (behind_shape tags semicolon.loc) sound, tags_there tags tagged)))))))
@@ -227,7 +235,7 @@ module _ (type : Production TextToken (Node TypeTree)) (t : Holds type TypeAt) w
       (then_holds (keyword (codes "in") >> refs) _ (λ n. All RefOfIds n.node) (All RefOfIds) (rest_holds (keyword (codes "in")) (λ _. refs) _ (λ _. one_or_list_holds ref RefOfIds ref_holds)) (λ rs h. gives_holds (All RefOfIds) rs.node h))
       (gives_holds (All RefOfIds) [] (All-nil RefOfIds)))
       (λ parents above.
-      then_holds (maybe (applies_to type)) _ (λ o. IfSome o (λ lines. All (λ d. AppOfIds d.node) lines.node)) DeclAt (maybe_holds (applies_to type) _ applies_hold) (λ applies sound.
+      then_holds (maybe (applies_to type)) _ (λ o. IfSome o (λ lines. All (λ d. AppAsRead d.node) lines.node)) DeclAt (maybe_holds (applies_to type) _ applies_hold) (λ applies sound.
       rest_holds (optional attributes_tail) _ DeclAt (λ _.
       rest_holds (mark (codes ";")) _ DeclAt (λ semicolon. gives_holds DeclAt _ (above, sound)))))))
 
@@ -247,20 +255,20 @@ module _ (type : Production TextToken (Node TypeTree)) (t : Holds type TypeAt) w
       action_holds)
       type_decl_holds
 
-  schema_holds : Holds (schema type) SchemaOfIds
+  schema_holds : Holds (schema type) SchemaAsRead
   schema_holds =
-      many_holds (annots >>= item_behind type) NamespaceOfIds
-      (rest_holds annots _ NamespaceOfIds (λ annotations.
-      either_holds _ _ NamespaceOfIds
-      (then_holds (namespace type) _ (λ n. IfSome n.name OfIds × All (λ d. DeclOfIds d.item.node) n.decls) NamespaceOfIds
+      many_holds (annots >>= item_behind type) NamespaceAsRead
+      (then_holds annots _ InOrder NamespaceAsRead annots_hold (λ annotations sorted.
+      either_holds _ _ NamespaceAsRead
+      (then_holds (namespace type) _ (λ n. IfSome n.name OfIds × All AnnotatedAsRead n.decls) NamespaceAsRead
       (rest_holds (keyword (codes "namespace")) _ _ (λ keyword_namespace.
       then_holds path _ OfIds _ path_holds (λ p named.
-      then_holds (bracketed (codes "{") (codes "}") (many (annotated (decl type)))) _ (λ ds. All (λ d. DeclOfIds d.item.node) ds.node) _
-      (bracketed_holds (codes "{") (codes "}") (many (annotated (decl type))) (All (λ d. DeclOfIds d.item.node)) (many_holds (annotated (decl type)) _ (annotated_holds (decl type) DeclAt decl_holds)))
-      (λ ds sound. gives_holds (λ (n : Namespace). IfSome n.name OfIds × All (λ d. DeclOfIds d.item.node) n.decls) _ (named, sound)))))
-      (λ n sound. gives_holds NamespaceOfIds (record { item = n; annotations = annotations }) sound))
-      (then_holds (decl type) _ DeclAt NamespaceOfIds decl_holds (λ d sound.
-      gives_holds NamespaceOfIds (alone annotations d) (tt, All-cons (λ d. DeclOfIds d.item.node) (record { item = d; annotations = annotations }) [] sound (All-nil (λ d. DeclOfIds d.item.node)))))))
+      then_holds (bracketed (codes "{") (codes "}") (many (annotated (decl type)))) _ (λ ds. All AnnotatedAsRead ds.node) _
+      (bracketed_holds (codes "{") (codes "}") (many (annotated (decl type))) (All AnnotatedAsRead) (many_holds (annotated (decl type)) _ (annotated_holds (decl type) DeclAt decl_holds)))
+      (λ ds sound. gives_holds (λ (n : Namespace). IfSome n.name OfIds × All AnnotatedAsRead n.decls) _ (named, sound)))))
+      (λ n sound. gives_holds NamespaceAsRead (record { item = n; annotations = annotations }) (sorted, sound.0, sound.1)))
+      (then_holds (decl type) _ DeclAt NamespaceAsRead decl_holds (λ d sound.
+      gives_holds NamespaceAsRead (alone annotations d) (map_of-sorted {V = Node Text} word_cmp nat_list_cmp_total [], tt, All-cons AnnotatedAsRead (record { item = d; annotations = annotations }) [] (sorted, sound) (All-nil AnnotatedAsRead))))))
 
 -- the types of each level
 type_holds : (n : ℕ) → Holds (type_upto n) TypeAt
@@ -269,8 +277,8 @@ type_holds (suc n) =
     either_holds (set_type (type_upto n) ∣ (record_type (type_upto n) >>= λ r. gives (as_record r))) (path >>= λ p. gives (as_name p)) TypeAt
     (either_holds (set_type (type_upto n)) (record_type (type_upto n) >>= λ r. gives (as_record r)) TypeAt
     (set_holds (type_upto n) (type_holds n))
-    (then_holds (record_type (type_upto n)) _ (λ r. AttrsOfIds r.node) TypeAt (record_holds (type_upto n) (type_holds n)) (λ r h. gives_holds TypeAt (as_record r) h)))
+    (then_holds (record_type (type_upto n)) _ (λ r. AttrsAsRead r.node) TypeAt (record_holds (type_upto n) (type_holds n)) (λ r h. gives_holds TypeAt (as_record r) h)))
     (then_holds path _ OfIds TypeAt path_holds (λ p h. gives_holds TypeAt (as_name p) h))
 
-pub read_of_ids : (ts : List TextToken) (s : Schema) → Reads ts s → SchemaOfIds s
-read_of_ids ts s (n, r) = (schema_holds (type_upto n) (type_holds n)).holds ts s [] r
+pub read_as_read : (ts : List TextToken) (s : Schema) → Reads ts s → SchemaAsRead s
+read_as_read ts s (n, r) = (schema_holds (type_upto n) (type_holds n)).holds ts s [] r
