@@ -1,6 +1,7 @@
 // SPDX-License-Identifier: Apache-2.0
 ghost use Rattle.std.specs.Prelude.{◌≡◌, ℕ, List};
 ghost use Rattle.cedar_convert_fragment.specs.Views.{fragment_seen};
+ghost use Rattle.cedar_convert_text.specs.Texts.{DeclaresText};
 ghost use Rattle.cedar_convert_warnings.specs.declared.warnings.SchemaWarning.{SchemaWarning};
 ghost use Rattle.cedar_fragment.specs.ActionUids.{over_raw};
 ghost use Rattle.cedar_fragment.specs.declared.definitions.Fragment.{Fragment};
@@ -8,6 +9,7 @@ ghost use Rattle.cedar_fragment_world.specs.FragmentFaults.{fragment_faults};
 ghost use Rattle.cedar_fragment_world.specs.FragmentWorlds.{world_of_fragment};
 ghost use Rattle.cedar_json_namespaces.specs.Namespaces.{IsFragment};
 ghost use Rattle.cedar_json_write.specs.Written.{fragment_json};
+ghost use Rattle.cedar_json_schema_laws.specs.TypeWords.{NamesNoEntityOrCommon, NamesNoWord};
 ghost use Rattle.cedar_json_written_laws.specs.Unplaced.{fragment_unplaced};
 ghost use Rattle.cedar_json_written_laws.specs.Writable.{WritableFragment};
 ghost use Rattle.cedar_schema_json.specs.Fragments.{SoundFragment};
@@ -53,4 +55,34 @@ pub fn what_is_written_denotes_the_same()
         → DenotesSchema (IsFragment (fragment_json F)) extensions S }
 {
     what_is_written_has_the_shape();
+}
+
+/// A law: a fragment that a text declares may be written, where no shape and no context of it is a path that is a word of
+/// types. Of a well formed text each shape and context is a record, so there the one such path to leave out is
+/// `EntityOrCommon`. It does nothing when it runs.
+pub fn what_a_text_declares_may_be_written()
+    ensures declared { (source : List ℕ) (F : Fragment RawName over_raw)
+        (extensions : List (List ℕ)) (warned : List SchemaWarning)
+        → DeclaresText source extensions (fragment_seen F) warned
+        → NamesNoWord (fragment_seen F)
+        → WritableFragment F }
+    ensures well_formed { (source : List ℕ) (F : Fragment RawName over_raw)
+        (extensions : List (List ℕ)) (warned : List SchemaWarning)
+        → text.IsWellFormed source extensions (fragment_seen F) warned
+        → NamesNoEntityOrCommon (fragment_seen F)
+        → WritableFragment F }
+{}
+
+/// A law: what is written in JSON of the fragment of a well formed text denotes what the text denotes, where no shape and
+/// no context is the path `EntityOrCommon`. It does nothing when it runs.
+pub fn what_a_text_declares_is_written_and_denotes_the_same()
+    ensures { (source : List ℕ) (F : Fragment RawName over_raw) (extensions : List (List ℕ))
+        (warned : List SchemaWarning) (S : Schema)
+        → text.IsWellFormed source extensions (fragment_seen F) warned
+        → NamesNoEntityOrCommon (fragment_seen F)
+        → text.DenotesSchema source extensions S warned
+        → DenotesSchema (IsFragment (fragment_json F)) extensions S }
+{
+    what_is_written_denotes_the_same();
+    what_a_text_declares_may_be_written();
 }

@@ -6,5 +6,8 @@
 mod laws;
 mod read_back;
 
-pub use laws::{places_denote_nothing, what_is_written_denotes_the_same};
+pub use laws::{
+    places_denote_nothing, what_a_text_declares_is_written_and_denotes_the_same,
+    what_a_text_declares_may_be_written, what_is_written_denotes_the_same,
+};
 pub use read_back::written_and_read_back;
