@@ -27,7 +27,7 @@ impl NamespaceDefinition<RawName> {
             (qualifying (option_copied ns.entry)) self) }
         ensures same { IfOk result (λ made. bare_namespace made ≡ bare_namespace self) }
     {
-        walk_unrefused(alloc, &Qualifying { namespace: ns }, self)
+        walk_unrefused(alloc, &Qualifying::new(alloc, ns)?, self)
     }
 }
 
@@ -40,7 +40,7 @@ impl EntityType<RawName> {
     ) -> Mem<EntityType<ConditionalName>>
         ensures { Makes result (through_entity (qualifying (option_copied ns.entry)) self) }
     {
-        walk_unrefused(alloc, &Qualifying { namespace: ns }, self)
+        walk_unrefused(alloc, &Qualifying::new(alloc, ns)?, self)
     }
 }
 
@@ -53,7 +53,7 @@ impl AttributesOrContext<RawName> {
     ) -> Mem<AttributesOrContext<ConditionalName>>
         ensures { Makes result (through_shape (qualifying (option_copied ns.entry)) self) }
     {
-        walk_unrefused(alloc, &Qualifying { namespace: ns }, self)
+        walk_unrefused(alloc, &Qualifying::new(alloc, ns)?, self)
     }
 }
 
@@ -67,7 +67,7 @@ impl ActionType<RawName> {
         ensures { Makes result
             (through_action over_raw over_conditional (qualifying (option_copied ns.entry)) self) }
     {
-        walk_unrefused(alloc, &Qualifying { namespace: ns }, self)
+        walk_unrefused(alloc, &Qualifying::new(alloc, ns)?, self)
     }
 }
 
@@ -80,7 +80,7 @@ impl ApplySpec<RawName> {
     ) -> Mem<ApplySpec<ConditionalName>>
         ensures { Makes result (through_apply (qualifying (option_copied ns.entry)) self) }
     {
-        walk_unrefused(alloc, &Qualifying { namespace: ns }, self)
+        walk_unrefused(alloc, &Qualifying::new(alloc, ns)?, self)
     }
 }
 
@@ -94,6 +94,6 @@ impl ActionEntityUID<RawName> {
         ensures { Makes result
             (through_uid over_raw over_conditional (qualifying (option_copied ns.entry)) self) }
     {
-        walk_unrefused(alloc, &Qualifying { namespace: ns }, self)
+        walk_unrefused(alloc, &Qualifying::new(alloc, ns)?, self)
     }
 }

@@ -27,6 +27,10 @@ loc_of n = n.loc
 abbrev pub components : InternalName → List (List ℕ)
 components n = id_words (n.namespace ++ n.basename ∷ [])
 
+-- all identifiers of a name, outermost first, the basename last
+abbrev pub all_ids : InternalName → List Id
+all_ids n = n.namespace ++ n.basename ∷ []
+
 -- some component is `__cedar`
 abbrev pub has_cedar : List (List ℕ) → Bool
 has_cedar ws = list_any is_cedar ws
@@ -40,3 +44,8 @@ in_namespace outer n (id ∷ ids) = n
 abbrev pub qualified : InternalName → Option InternalName → InternalName
 qualified n None = n
 qualified n (Some ns) = in_namespace (ns.namespace ++ ns.basename ∷ []) n n.namespace
+
+-- the name within the namespace of these identifiers, where there is one and the name has no namespace
+abbrev pub qualified_in : InternalName → Option (List Id) → InternalName
+qualified_in n None = n
+qualified_in n (Some outer) = in_namespace outer n n.namespace

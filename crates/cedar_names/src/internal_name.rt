@@ -9,7 +9,7 @@ ghost use Rattle.cedar_names.specs.Order.{words_cmp, words_eq};
 ghost use Rattle.cedar_names.specs.HashLaws.{name_fed, name_fed-alike};
 ghost use Rattle.cedar_names.specs.Identifiers.{id_word, ids_left};
 ghost use Rattle.cedar_text.specs.Words.{is_cedar};
-ghost use Rattle.cedar_names.specs.Components.{internal_name, basename_of, namespace_of, loc_of, components, has_cedar, qualified};
+ghost use Rattle.cedar_names.specs.Components.{internal_name, all_ids, basename_of, namespace_of, loc_of, components, has_cedar, qualified, qualified_in};
 ghost use Rattle.cedar_text.specs.Joining.{joined};
 ghost use Rattle.cedar_text.specs.Failures.{IfRefused};
 ghost use Rattle.cedar_text.specs.Faults.{word_fault, no_id};
@@ -146,15 +146,47 @@ impl InternalName {
         if !self.is_unqualified() {
             return Ok(self);
         }
-        let namespace = outer
-            .namespace
-            .to_ids_with(alloc, outer.basename.dup(alloc)?)?;
+        let namespace = outer.as_namespace(alloc)?;
+        Ok(self.moved_to(namespace))
+    }
+
+    /// The identifiers of the name as the namespace of others, whose copies take no memory. It fails only for want of
+    /// memory.
+    pub fn as_namespace(&self, alloc: Global) -> Mem<Namespace>
+        ensures { IfOk result (λ ns. ns ≡ all_ids self.now) }
+    {
+        let last = self.basename.dup(alloc)?;
+        let ids = self.namespace.to_ids_with(alloc, last)?;
+        Namespace::shared(alloc, ids)
+    }
+
+    /// As `qualify_with`, within the namespace `ns`. Names that are given the same `ns` share its memory, where it was
+    /// made by `as_namespace`.
+    pub fn qualify_within(self, alloc: Global, ns: Option<&Namespace>) -> Mem<InternalName>
+        ensures { IfOk result (λ n. n ≡ qualified_in self (option_copied ns.entry)) }
+    {
+        let Some(outer) = ns else { return Ok(self) };
+        if !self.is_unqualified() {
+            return Ok(self);
+        }
+        let namespace = outer.dup(alloc)?;
+        Ok(self.moved_to(namespace))
+    }
+
+    /// The same basename and place in this namespace.
+    fn moved_to(self, namespace: Namespace) -> InternalName
+        ensures { result ≡ internal_name (basename_of self) namespace (loc_of self) }
+    {
         let InternalName {
             basename,
             namespace: _,
             loc,
         } = self;
-        InternalName::with_shared(alloc, basename, namespace, loc)
+        InternalName {
+            basename,
+            namespace,
+            loc,
+        }
     }
 
     /// Whether some component is `__cedar`.

@@ -29,3 +29,4 @@ pub use id::{Id, UnreservedId};
 pub use internal_name::{IdIter, InternalName, ReservedNameError};
 pub use laws::{faultless_writes_an_entity, one_id_of_a_word};
 pub use name::{EntityType, Name};
+pub use namespace::Namespace;

@@ -1,8 +1,9 @@
 -- SPDX-License-Identifier: Apache-2.0
 -- Names as a schema writes them, and the full names that they may stand for.
 use Rattle.std.specs.Prelude.{List, [], ◌∷◌, Option, Some, None}
+use Rattle.std.specs.Option.{option_map}
 use Rattle.cedar_text.specs.declared.non_empty.NonEmpty.{NonEmpty}
-use Rattle.cedar_names.specs.Components.{namespace_of, qualified}
+use Rattle.cedar_names.specs.Components.{all_ids, namespace_of, qualified, qualified_in}
 use Rattle.cedar_names.specs.declared.id.Id.{Id}
 use Rattle.cedar_names.specs.declared.internal_name.InternalName.{InternalName}
 use Rattle.cedar_written.specs.declared.conditional_name.ConditionalName.{ConditionalName}
@@ -31,6 +32,20 @@ possible (Some ns) n (id ∷ ids) = leading n []
 abbrev pub possibilities : Option InternalName → InternalName → NonEmpty InternalName
 possibilities ns n = possible ns n (namespace_of n)
 
+-- the identifiers of the namespace that a name names, where there is one
+abbrev pub ids_of : Option InternalName → Option (List Id)
+ids_of ns = option_map all_ids ns
+
+-- the full names that a name stands for in the namespace of these identifiers, given the name's own namespace
+abbrev possible_in : Option (List Id) → InternalName → List Id → NonEmpty InternalName
+possible_in None n ids = leading n []
+possible_in (Some outer) n [] = leading (qualified_in n (Some outer)) (n ∷ [])
+possible_in (Some outer) n (id ∷ ids) = leading n []
+
+-- the same in the namespace of these identifiers, where there is one
+abbrev pub possibilities_in : Option (List Id) → InternalName → NonEmpty InternalName
+possibilities_in outer n = possible_in outer n (namespace_of n)
+
 -- a written name at a place of a kind, with the full names that it may stand for
 abbrev pub reference : RawName → ReferenceType → NonEmpty InternalName → ConditionalName
 reference raw kind names = record { reference = record { raw = raw; reference_type = kind; possibilities = names } }
@@ -38,6 +53,10 @@ reference raw kind names = record { reference = record { raw = raw; reference_ty
 -- a written name at a place of a kind, in the namespace ns, where there is one
 abbrev pub conditional : Option InternalName → ReferenceType → RawName → ConditionalName
 conditional ns kind raw = reference raw kind (possibilities ns (written raw))
+
+-- the same in the namespace of these identifiers, where there is one
+abbrev pub conditional_in : Option (List Id) → ReferenceType → RawName → ConditionalName
+conditional_in outer kind raw = reference raw kind (possibilities_in outer (written raw))
 
 -- a name that stands for itself alone
 abbrev pub unconditional : InternalName → ReferenceType → ConditionalName

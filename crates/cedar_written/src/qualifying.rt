@@ -1,20 +1,22 @@
 // SPDX-License-Identifier: Apache-2.0
 ghost use Rattle.std.specs.Prelude.{◌≡◌, IfOk, unwrap_or};
+ghost use Rattle.std.specs.Coded.{Coded-set};
 ghost use Rattle.std.specs.Option.{option_copied};
 ghost use Rattle.cedar_written.specs.Answers.{Answers, Makes};
 ghost use Rattle.cedar_written.specs.Bare.{bare_type};
+ghost use Rattle.cedar_written.specs.Possibilities.{conditional, ids_of};
 ghost use Rattle.cedar_written.specs.Qualifying.{action_name, qualifying};
 ghost use Rattle.cedar_written.specs.Reference.{parent};
 ghost use Rattle.cedar_written.specs.Through.{through_attribute, through_record, through_type, through_variant};
 
 use crate::conditional_name::ConditionalName;
-use crate::raw_name::RawName;
+use crate::raw_name::{RawName, namespace_within};
 use crate::reference_type::ReferenceType;
 use crate::step::Step;
 use crate::ty::{RecordType, SchemaType, TypeOfAttribute, TypeVariant};
 use crate::walked::Walk;
 use cedar_data::{Failure, Mem, NoMemory, Out, Text};
-use cedar_names::{InternalName, UnreservedId};
+use cedar_names::{InternalName, Namespace, UnreservedId};
 use std::alloc::Global;
 
 /// A refusal that never comes.
@@ -26,6 +28,29 @@ pub enum Never {}
 pub struct Qualifying<'a> {
     /// The namespace, none for the unnamed one.
     pub namespace: Option<&'a InternalName>,
+    /// The same as the namespace of all names that the step qualifies.
+    within: Option<Namespace>,
+    pub ghost held: { within ≡ ids_of (option_copied namespace) } by { Coded-set within-code _ _ },
+}
+
+impl<'a> Qualifying<'a> {
+    /// The step of the namespace, none for the unnamed one. All names that it qualifies share the memory of the
+    /// namespace. It fails only for want of memory.
+    pub fn new(alloc: Global, namespace: Option<&'a InternalName>) -> Mem<Qualifying<'a>>
+        ensures { IfOk result (λ step. option_copied step.namespace
+            ≡ option_copied namespace.entry) }
+    {
+        let within = namespace_within(alloc, namespace)?;
+        Ok(Qualifying { namespace, within })
+    }
+
+    /// The name with the full names that it may stand for in the namespace, at a place of this kind.
+    fn full_names(&self, alloc: Global, kind: ReferenceType, name: RawName) -> Mem<ConditionalName>
+        ensures { IfOk result (λ n. n
+            ≡ conditional (option_copied self.now.namespace) kind name) }
+    {
+        name.conditionally_qualify_within(alloc, self.within.as_ref(), kind)
+    }
 }
 
 impl<'a> Step<RawName> for Qualifying<'a> {
@@ -36,7 +61,7 @@ impl<'a> Step<RawName> for Qualifying<'a> {
     ghost step = { λ s. qualifying (option_copied s.namespace) };
 
     fn go(&self, alloc: Global, kind: ReferenceType, name: RawName) -> Out<ConditionalName, Never> {
-        Ok(name.conditionally_qualify_with(alloc, self.namespace, kind)?)
+        Ok(self.full_names(alloc, kind, name)?)
     }
 
     fn go_parent(
@@ -49,8 +74,7 @@ impl<'a> Step<RawName> for Qualifying<'a> {
             (qualifying (option_copied self.now.namespace) (parent id.now ty)) }
     {
         let name = type_or_action(alloc, ty)?;
-        let kind = ReferenceType::Entity;
-        Ok(name.conditionally_qualify_with(alloc, self.namespace, kind)?)
+        Ok(self.full_names(alloc, ReferenceType::Entity, name)?)
     }
 }
 
@@ -92,7 +116,7 @@ impl SchemaType<RawName> {
         ensures answer { Makes result (through_type (qualifying (option_copied ns.entry)) self) }
         ensures same { IfOk result (λ made. bare_type made ≡ bare_type self) }
     {
-        walk_unrefused(alloc, &Qualifying { namespace: ns }, self)
+        walk_unrefused(alloc, &Qualifying::new(alloc, ns)?, self)
     }
 }
 
@@ -105,7 +129,7 @@ impl TypeVariant<RawName> {
     ) -> Mem<TypeVariant<ConditionalName>>
         ensures { Makes result (through_variant (qualifying (option_copied ns.entry)) self) }
     {
-        walk_unrefused(alloc, &Qualifying { namespace: ns }, self)
+        walk_unrefused(alloc, &Qualifying::new(alloc, ns)?, self)
     }
 }
 
@@ -118,7 +142,7 @@ impl RecordType<RawName> {
     ) -> Mem<RecordType<ConditionalName>>
         ensures { Makes result (through_record (qualifying (option_copied ns.entry)) self) }
     {
-        walk_unrefused(alloc, &Qualifying { namespace: ns }, self)
+        walk_unrefused(alloc, &Qualifying::new(alloc, ns)?, self)
     }
 }
 
@@ -131,6 +155,6 @@ impl TypeOfAttribute<RawName> {
     ) -> Mem<TypeOfAttribute<ConditionalName>>
         ensures { Makes result (through_attribute (qualifying (option_copied ns.entry)) self) }
     {
-        walk_unrefused(alloc, &Qualifying { namespace: ns }, self)
+        walk_unrefused(alloc, &Qualifying::new(alloc, ns)?, self)
     }
 }

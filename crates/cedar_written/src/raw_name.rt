@@ -8,12 +8,12 @@ ghost use Rattle.cedar_text.specs.NormalNames.{name_fault, parts};
 ghost use Rattle.cedar_names.specs.Components.{components, internal_name, loc_of, namespace_of, qualified};
 ghost use Rattle.cedar_names.specs.Identifiers.{id_of};
 ghost use Rattle.cedar_names.specs.Names.{internal_of};
-ghost use Rattle.cedar_written.specs.Possibilities.{conditional, first_possibility, possibilities, raw_name, written};
+ghost use Rattle.cedar_written.specs.Possibilities.{conditional, conditional_in, first_possibility, ids_of, possibilities_in, raw_name, written};
 
 use crate::conditional_name::ConditionalName;
 use crate::reference_type::ReferenceType;
 use cedar_data::{Dup, Items, Mem, Out};
-use cedar_names::{Id, InternalName, Name, UnreservedId};
+use cedar_names::{Id, InternalName, Name, Namespace, UnreservedId};
 use cedar_text::{Loc, NameFault, NonEmpty};
 use std::alloc::Global;
 use std::fmt;
@@ -115,8 +115,32 @@ impl RawName {
         ensures first { IfOk result (λ n. first_possibility n
             ≡ qualified (written self) (option_copied ns.entry)) }
     {
+        let within = namespace_within(alloc, ns)?;
+        self.conditionally_qualify_within(alloc, within.as_ref(), reference_type)
+    }
+
+    /// As `conditionally_qualify_with`, in the namespace `ns`, whose memory the full names share.
+    pub(crate) fn conditionally_qualify_within(
+        self,
+        alloc: Global,
+        ns: Option<&Namespace>,
+        reference_type: ReferenceType,
+    ) -> Mem<ConditionalName>
+        ensures { IfOk result (λ n. n
+            ≡ conditional_in (option_copied ns.entry) reference_type self) }
+    {
         let possibilities = possibilities(alloc, &self.name, ns)?;
         ConditionalName::of_parts(alloc, self, reference_type, possibilities)
+    }
+}
+
+/// The namespace that `ns` names, made once for the names in it.
+pub(crate) fn namespace_within(alloc: Global, ns: Option<&InternalName>) -> Mem<Option<Namespace>>
+    ensures { IfOk result (λ within. within ≡ ids_of (option_copied ns.entry)) }
+{
+    match ns {
+        None => Ok(None),
+        Some(outer) => Ok(Some(outer.as_namespace(alloc)?)),
     }
 }
 
@@ -125,12 +149,12 @@ impl RawName {
 fn possibilities(
     alloc: Global,
     name: &InternalName,
-    ns: Option<&InternalName>,
+    ns: Option<&Namespace>,
 ) -> Mem<NonEmpty<InternalName>>
-    ensures { IfOk result (λ names. names ≡ possibilities (option_copied ns.entry) name.now) }
+    ensures { IfOk result (λ names. names ≡ possibilities_in (option_copied ns.entry) name.now) }
 {
     let tail = other_possibilities(alloc, name, ns)?;
-    let head = name.dup(alloc)?.qualify_with(alloc, ns)?;
+    let head = name.dup(alloc)?.qualify_within(alloc, ns)?;
     Ok(NonEmpty { head, tail })
 }
 
@@ -138,10 +162,10 @@ fn possibilities(
 fn other_possibilities(
     alloc: Global,
     name: &InternalName,
-    ns: Option<&InternalName>,
+    ns: Option<&Namespace>,
 ) -> Mem<Items<InternalName>>
     ensures { IfOk result (λ names. names
-        ≡ (possibilities (option_copied ns.entry) name.now).tail) }
+        ≡ (possibilities_in (option_copied ns.entry) name.now).tail) }
 {
     if ns.is_none() || !name.is_unqualified() {
         return Ok(Items::new(alloc));

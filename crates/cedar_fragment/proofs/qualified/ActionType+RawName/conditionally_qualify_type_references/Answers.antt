@@ -1,0 +1,12 @@
+-- SPDX-License-Identifier: Apache-2.0
+use Rattle.std.proofs.Common.{subst}
+use Rattle.cedar_written.specs.Answers.{Makes}
+use Rattle.cedar_written.specs.Qualifying.{qualifying}
+use Rattle.cedar_fragment.specs.ActionUids.{over_conditional, over_raw}
+use Rattle.cedar_fragment.specs.Definitions.{through_action}
+use Rattle.cedar_fragment.proofs.qualified.ActionType+RawName.conditionally_qualify_type_references.Goals as goal
+
+pub returns : goal.returns
+returns c =
+    subst (λ ns. Makes c.walk_unrefused.result (through_action over_raw over_conditional (qualifying ns) c.args.self)) c.in_ok-new.ensures
+    c.walk_unrefused.ensures
