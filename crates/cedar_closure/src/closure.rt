@@ -122,29 +122,8 @@ fn close_nodes<K: TcKey, V: TcNode<K>>(
         }
         closed.push((key, node))?;
     }
-    let closed_nodes = map_of_sorted(alloc, closed)?;
+    let closed_nodes = Map::from_sorted(alloc, closed)?;
     Ok(closed_nodes)
-}
-
-/// The map of entries that are in the order of their keys. From the greatest on, putting them in takes the fewest
-/// comparisons.
-fn map_of_sorted<K: Ord + Drop, V: Drop>(alloc: Global, mut entries: Vec<(K, V)>) -> Mem<Map<K, V>>
-    requires { IsSortedMap K.cmp entries.items }
-    ensures { IfOk result (λ map. map ≡ entries.items) }
-{
-    let mut map = Map::new(alloc);
-    while let Some((key, value)) = entries.pop() {
-        put_first(&mut map, key, value)?;
-    }
-    Ok(map)
-}
-
-/// Puts an entry before all others.
-fn put_first<K: Ord + Drop, V: Drop>(map: &mut Map<K, V>, key: K, value: V) -> Mem<()>
-    requires { IsStrictlySortedBy K.cmp (key ∷ keys_of map.old) }
-    ensures { OnOk result (map.new ≡ (key, value) ∷ map.old) }
-{
-    map.put(key, value)
 }
 
 /// Whether an edge leads from the node.

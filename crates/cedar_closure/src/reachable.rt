@@ -32,8 +32,8 @@ pub(crate) fn reached_from(
         visit(rows[at].as_slice(), stamp, marks, &mut found)?;
         next += 1;
     }
-    // From the greatest on, putting their keys into a set takes the fewest comparisons.
-    found.sort_unstable_by(|a, b| b.cmp(a));
+    // In order, putting their keys into a set moves the fewest.
+    found.sort_unstable();
     Ok(found)
 }
 

@@ -1,6 +1,6 @@
 -- SPDX-License-Identifier: Apache-2.0
 -- What the fronts of two texts say of their order.
-use Rattle.std.proofs.Common.{◌≡◌, ◌⊎◌, inl, inr, ℕ, zero, suc, ◌+◌, ◌*◌, ◌^◌, ◌%◌, ◌<◌, ◌≤◌, min, List, [], ◌∷◌, length, get_or, ltb, ltb-true, true, refl, ap, sym, ◌∙◌, arith}
+use Rattle.std.proofs.Common.{◌≡◌, ◌⊎◌, inl, inr, ℕ, zero, suc, ◌+◌, ◌*◌, ◌^◌, ◌%◌, ◌<◌, ◌≤◌, min, List, [], ◌∷◌, length, take, get_or, ltb, ltb-true, true, false, refl, ap, sym, ◌∙◌, arith}
 use Rattle.std.proofs.lemmas.Bool.{cases_order}
 use Rattle.std.proofs.lemmas.Bool.Decides.{nat_tests}
 use Rattle.std.proofs.lemmas.Nat.{mul-add-lt, mod-mul-add, row_fits, same_from_place}
@@ -9,7 +9,9 @@ use Rattle.std.specs.Cmp.{nat_cmp_is, Equal-is}
 use Rattle.std.specs.Cmp.Lexicographic.{slice_cmp, nat_list_cmp_total, texts_ties, bytes_decides}
 use Rattle.std.specs.Ordering.{ordering_then, ordering_reverse, nat_cmp}
 use Rattle.std.specs.declared.cmp.Ordering.TheVariants.{Less, Equal, Greater}
-use Rattle.cedar_data.specs.Fronts.{digits, front_of, IsFront}
+use Rattle.std.specs.Int.{w64, from_be_bytes, to_be_bytes}
+use Rattle.std.proofs.lemmas.Nat.{be_bytes_8, from_be_bytes-to_be_bytes_8}
+use Rattle.cedar_data.specs.Fronts.{digits, front_of, held_text, HasFront, IsFront, IsFrontNumber}
 
 -- each is a byte
 abbrev pub Bytes : List ℕ → Type 0
@@ -89,11 +91,6 @@ digits_same (suc k) (x ∷ xs) (y ∷ ys) a b h l m =
     let rest = digits_same k xs ys rest_a rest_b p.1 (omega arith) (omega arith) in
     λ i. p.0 i ∷ rest i
 
--- the last byte of a front is the length, at most 8
-pub front_of-mod : (text : List ℕ) → front_of text % 256 ≡ min (length text) 8
-unfolding front_of
-front_of-mod text = mod-mul-add (digits 7 text) 256 (min (length text) 8) (omega arith)
-
 -- the texts are ordered as their fronts
 pub front_less : (xs ys : List ℕ) → Bytes xs → Bytes ys → front_of xs < front_of ys → slice_cmp nat_cmp xs ys ≡ Less
 unfolding front_of
@@ -115,21 +112,107 @@ digits-fit k text h l =
     let q : 256 ^ k ≤ 256 ^ 7 = pow-le-pow_right {n = 256} (omega arith) {i = k} {j = 7} l in
     omega arith
 
-pub IsFront-less : {m n : ℕ} {xs ys : List ℕ} → IsFront m xs → IsFront n ys → m < n → slice_cmp nat_cmp xs ys ≡ Less
-IsFront-less {xs = xs} {ys = ys} a b h = front_less xs ys a.bytes b.bytes (omega (arith, a.front, b.front))
+-- the bytes of the front: seven of the text, zeros behind fewer, and its length, at most 8
+abbrev pub front_bytes : List ℕ → List ℕ
+front_bytes text =
+    get_or text 0 0 ∷ get_or text 1 0 ∷ get_or text 2 0 ∷ get_or text 3 0 ∷ get_or text 4 0 ∷ get_or text 5 0 ∷ get_or text 6 0 ∷ min (length text) 8 ∷ []
 
-pub IsFront-greater : {m n : ℕ} {xs ys : List ℕ} → IsFront m xs → IsFront n ys → n < m → slice_cmp nat_cmp xs ys ≡ Greater
-IsFront-greater {xs = xs} {ys = ys} a b h = nat_list_cmp_total.antisymm xs ys ∙ ap ordering_reverse (IsFront-less b a h)
+digits_7 : (text : List ℕ) → front_of text ≡ from_be_bytes w64 (front_bytes text)
+unfolding front_of digits
+digits_7 text =
+    omega (arith, digits-suc 0 text, digits-suc 1 text, digits-suc 2 text, digits-suc 3 text, digits-suc 4 text, digits-suc 5 text, digits-suc 6 text)
 
-pub IsFront-same : {m n : ℕ} {xs ys : List ℕ} → IsFront m xs → IsFront n ys → m ≡ n → ltb (length xs) 8 ≡ true → xs ≡ ys
-IsFront-same {xs = xs} {ys = ys} a b h short = front_same xs ys a.bytes b.bytes (sym a.front ∙ h ∙ b.front) (ltb-true (length xs) 8 short)
+each_small : (text : List ℕ) → Bytes text → (i : ℕ) → get_or (front_bytes text) i 0 < 256
+each_small text h zero = h 0
+each_small text h (suc zero) = h 1
+each_small text h (suc (suc zero)) = h 2
+each_small text h (suc (suc (suc zero))) = h 3
+each_small text h (suc (suc (suc (suc zero)))) = h 4
+each_small text h (suc (suc (suc (suc (suc zero))))) = h 5
+each_small text h (suc (suc (suc (suc (suc (suc zero)))))) = h 6
+each_small text h (suc (suc (suc (suc (suc (suc (suc zero))))))) = omega arith
+each_small text h (suc (suc (suc (suc (suc (suc (suc (suc i)))))))) = omega arith
 
-pub IsFront-equal : {m n : ℕ} {xs ys : List ℕ} → IsFront m xs → IsFront n ys → m ≡ n → ltb (length xs) 8 ≡ true → slice_cmp nat_cmp xs ys ≡ Equal
-IsFront-equal {xs = xs} {ys = ys} a b h short =
-    (Equal-is (slice_cmp nat_cmp xs ys)).0 (sym (texts_ties xs ys) ∙ (bytes_decides xs ys).1 (IsFront-same a b h short))
+-- the bytes of the front's number
+pub to_be_bytes-front : (text : List ℕ) → Bytes text → to_be_bytes w64 (front_of text) ≡ front_bytes text
+to_be_bytes-front text h = be_bytes_8 (front_bytes text) (front_of text) refl (each_small text h) (digits_7 text)
 
--- whether the length of a text is below 8, by its front
-pub IsFront-short : {n : ℕ} {xs : List ℕ} → IsFront n xs → ltb (n % 256) 8 ≡ ltb (length xs) 8
-IsFront-short {n = n} {xs = xs} a =
-    let e : n % 256 ≡ min (length xs) 8 = ap (λ (k : ℕ). k % 256) a.front ∙ front_of-mod xs in
+-- the front's number fits 64 bits
+pub front_of-fits : (text : List ℕ) → Bytes text → front_of text < 2 ^ 64
+unfolding front_of
+front_of-fits text h = omega (arith, digits-fit 7 text h (omega arith))
+
+-- and is the number of its bytes
+pub front_of-is : (text : List ℕ) → Bytes text → from_be_bytes w64 (to_be_bytes w64 (front_of text)) ≡ front_of text
+front_of-is text h = from_be_bytes-to_be_bytes_8 (front_of text) (front_of-fits text h)
+
+-- the front of a short text holds it
+take-front_bytes : (text : List ℕ) → length text < 8 → take (length text) (front_bytes text) ≡ text
+take-front_bytes [] h = refl
+take-front_bytes (a ∷ []) h = refl
+take-front_bytes (a ∷ b ∷ []) h = refl
+take-front_bytes (a ∷ b ∷ c ∷ []) h = refl
+take-front_bytes (a ∷ b ∷ c ∷ d ∷ []) h = refl
+take-front_bytes (a ∷ b ∷ c ∷ d ∷ e ∷ []) h = refl
+take-front_bytes (a ∷ b ∷ c ∷ d ∷ e ∷ f ∷ []) h = refl
+take-front_bytes (a ∷ b ∷ c ∷ d ∷ e ∷ f ∷ g ∷ []) h = refl
+take-front_bytes (a ∷ b ∷ c ∷ d ∷ e ∷ f ∷ g ∷ k ∷ rest) h = absurd (omega arith)
+
+-- the last byte of a front is the length, at most 8
+pub HasFront-length : {front text : List ℕ} → HasFront front text → get_or front 7 0 ≡ min (length text) 8
+HasFront-length {text = text} is = ap (λ (bytes : List ℕ). get_or bytes 7 0) (is.number ∙ to_be_bytes-front text is.bytes)
+
+-- a front holds a short text
+pub HasFront-short : {front text : List ℕ} → HasFront front text → length text < 8 → take (get_or front 7 0) front ≡ text
+HasFront-short {front = front} {text = text} is short =
+    let whole = is.number ∙ to_be_bytes-front text is.bytes in
+    let long : get_or front 7 0 ≡ length text = omega (arith, HasFront-length is) in
+    ap (λ (n : ℕ). take n front) long ∙ ap (λ (bytes : List ℕ). take (length text) bytes) whole ∙ take-front_bytes text short
+
+-- whether the text is short, by its front
+pub HasFront-is_short : {front text : List ℕ} → HasFront front text → ltb (get_or front 7 0) 8 ≡ ltb (length text) 8
+HasFront-is_short is =
+    let e = HasFront-length is in
     grind (arith, nat_tests)
+
+-- what a front and the shared bytes hold
+pub held_text-is : {front text : List ℕ} (shared : List ℕ) → HasFront front text → (8 ≤ length text → shared ≡ text) → held_text front shared ≡ text
+held_text-is {front = front} {text = text} shared is long =
+    elim (cases_order (length text) 8) as (λ _. held_text front shared ≡ text) [
+      | inl e ↦ rw (HasFront-is_short is) (rw (not_short (omega arith)) (long (omega arith)))
+      | inr (inl l) ↦ rw (HasFront-is_short is) (rw (is_short l) (HasFront-short is l))
+      | inr (inr g) ↦ rw (HasFront-is_short is) (rw (not_short (omega arith)) (long (omega arith)))
+    ]
+  where
+    is_short : length text < 8 → ltb (length text) 8 ≡ true
+    is_short h = grind (arith, nat_tests)
+
+    not_short : 8 ≤ length text → ltb (length text) 8 ≡ false
+    not_short h = grind (arith, nat_tests)
+
+-- what a front says, opened and closed
+pub opened : {front text : List ℕ} → IsFront front text → HasFront front text
+unfolding IsFront
+opened is = is
+
+pub closed : {front text : List ℕ} → HasFront front text → IsFront front text
+unfolding IsFront
+closed has = has
+
+-- the front of a text, read at what the front and the shared bytes hold
+pub IsFront-held : (front text shared : List ℕ) → IsFront front text → (8 ≤ length text → shared ≡ text) → IsFront front (held_text front shared)
+IsFront-held front text shared is long = rw (held_text-is shared (opened is) long) is
+
+-- two texts by the numbers of their fronts
+pub number_less : {m n : ℕ} {xs ys : List ℕ} → IsFrontNumber m xs → IsFrontNumber n ys → m < n → slice_cmp nat_cmp xs ys ≡ Less
+number_less {xs = xs} {ys = ys} a b h = front_less xs ys a.bytes b.bytes (omega (arith, a.number, b.number))
+
+pub number_greater : {m n : ℕ} {xs ys : List ℕ} → IsFrontNumber m xs → IsFrontNumber n ys → n < m → slice_cmp nat_cmp xs ys ≡ Greater
+number_greater {xs = xs} {ys = ys} a b h = nat_list_cmp_total.antisymm xs ys ∙ ap ordering_reverse (number_less b a h)
+
+pub number_same : {m n : ℕ} {xs ys : List ℕ} → IsFrontNumber m xs → IsFrontNumber n ys → m ≡ n → ltb (length xs) 8 ≡ true → xs ≡ ys
+number_same {xs = xs} {ys = ys} a b h short = front_same xs ys a.bytes b.bytes (sym a.number ∙ h ∙ b.number) (ltb-true (length xs) 8 short)
+
+pub number_equal : {m n : ℕ} {xs ys : List ℕ} → IsFrontNumber m xs → IsFrontNumber n ys → m ≡ n → ltb (length xs) 8 ≡ true → slice_cmp nat_cmp xs ys ≡ Equal
+number_equal {xs = xs} {ys = ys} a b h short =
+    (Equal-is (slice_cmp nat_cmp xs ys)).0 (sym (texts_ties xs ys) ∙ (bytes_decides xs ys).1 (number_same a b h short))

@@ -8,3 +8,10 @@ pub mod Deciding
 pub mod Exact
 pub mod Judging
 pub mod Progress
+pub mod Splitting
+pub mod Places
+pub mod Passing
+pub mod RunOrder
+pub mod RunEdits
+pub mod SetKeys
+pub mod Puts

@@ -4,12 +4,16 @@
 #![tactic(auto)]
 
 mod boxed;
+mod comparing;
 mod dup;
+mod entries;
+mod entries_iter;
 mod items;
 mod laws;
 mod map;
 mod map_iter;
 mod memory;
+mod run;
 mod set;
 mod shared;
 mod text;

@@ -1,5 +1,5 @@
 // SPDX-License-Identifier: Apache-2.0
-ghost use Rattle.std.specs.Prelude.{◌≡◌, [], ◌∷◌, ◌++◌, ◌&&◌, ◌↔◌, length, is_some, IsTrue, IfOk, OnOk, OnErr};
+ghost use Rattle.std.specs.Prelude.{◌≡◌, [], ◌∷◌, ◌++◌, ◌&&◌, ◌↔◌, length, is_some, option_map, IsTrue, IfOk, OnOk, OnErr};
 ghost use Rattle.std.specs.Option.{option_copied};
 ghost use Rattle.std.specs.BTreeMap.{insert_entry, is_at};
 ghost use Rattle.std.specs.Map.{keys_of, values_of};
@@ -8,22 +8,24 @@ ghost use Rattle.std.specs.Cmp.Lexicographic.{pointwise, slice_cmp, slice_partia
 ghost use Rattle.std.specs.Cmp.{on_per, and_per, on_equiv, and_equiv, on_po, then_po, on_total, then_total, then_agrees, both_tied};
 ghost use Rattle.std.specs.Ordering.{ordering_then, partial_ordering_then};
 ghost use Rattle.cedar_data.specs.Maps.{get, map_of, get_text, last_value, IsSortedMap, Puts};
+ghost use Rattle.cedar_data.specs.Runs.{first_after};
 
 use crate::boxed::Boxed;
+use crate::comparing::{compare_entries, partially_compare_entries, same_entries};
 use crate::dup::Dup;
+use crate::entries::Entries;
 use crate::map_iter::{MapIntoIter, MapIter, MapKeys, MapValues};
 use crate::memory::Mem;
 use crate::text::Text;
 use std::alloc::Global;
 use std::cmp::Ordering;
-use std::collections::BTreeMap;
 use std::marker::Model;
 
 /// A map in the order of its keys, that contracts see as the list of its entries, so that a copy equals its source.
 #[derive(Debug, Drop)]
 pub struct Map<K: Ord, V> {
     alloc: Global,
-    map: BTreeMap<K, Boxed<V>>,
+    map: Entries<K, Boxed<V>>,
 }
 
 impl<K: Ord, V> Model for Map<K, V> {
@@ -34,7 +36,7 @@ impl<K: Ord, V> Model for Map<K, V> {
 
     ghost coded = { coded_list (coded× K.code V.code) };
 
-    ghost view = { λ m. m.map.entries };
+    ghost view = { λ m. m.map };
 }
 
 impl<K: Ord, V> Map<K, V> {
@@ -44,15 +46,8 @@ impl<K: Ord, V> Map<K, V> {
     {
         Map {
             alloc,
-            map: BTreeMap::new(alloc),
+            map: Entries::new(alloc),
         }
-    }
-
-    /// The entries as a `BTreeMap` of values on the heap, lent.
-    pub fn as_map(&self) -> &BTreeMap<K, Boxed<V>>
-        ensures { result.now.entries ≡ self.now }
-    {
-        &self.map
     }
 
     /// How many entries the map has.
@@ -67,7 +62,7 @@ impl<K: Ord, V> Map<K, V> {
     pub fn is_empty(&self) -> bool
         ensures { IsTrue result ↔ (self.now ≡ []) }
     {
-        self.map.is_empty()
+        self.map.len() == 0
     }
 
     /// The value at the key that is equal to `key` in the order of the keys.
@@ -80,11 +75,21 @@ impl<K: Ord, V> Map<K, V> {
         }
     }
 
+    /// The first entry whose key is greater than `key`.
+    pub fn after(&self, key: &K) -> Option<(&K, &V)>
+        ensures { option_map (λ e. (e.0.now, e.1.now)) result ≡ first_after K.cmp key.now self.now }
+    {
+        match self.map.after(key) {
+            Some((key, value)) => Some((key, value.get())),
+            None => None,
+        }
+    }
+
     /// Whether a key is equal to `key` in the order of the keys.
     pub fn contains_key(&self, key: &K) -> bool
         ensures { result ≡ is_some (get K.cmp self.now key.now) }
     {
-        self.map.contains_key(key)
+        self.map.get(key).is_some()
     }
 
     /// The entries, in the order of the keys.
@@ -99,14 +104,14 @@ impl<K: Ord, V> Map<K, V> {
     pub fn keys(&self) -> MapKeys<'_, K, V>
         ensures { result ≡ keys_of self.now }
     {
-        self.map.keys()
+        MapKeys::of(self.map.iter())
     }
 
     /// The values, in the order of their keys.
     pub fn values(&self) -> MapValues<'_, K, V>
         ensures { result ≡ values_of self.now }
     {
-        MapValues::of(self.map.values())
+        MapValues::of(self.map.iter())
     }
 }
 
@@ -117,7 +122,7 @@ impl<K: Ord + Drop, V: Drop> Map<K, V> {
         ensures ordered { IsSortedMap K.cmp self }
     {
         let Map { alloc: _, map } = self;
-        MapIntoIter::of(map.into_iter())
+        MapIntoIter::of(map.into_entries())
     }
 
     /// Puts `value` at `key`, and answers the value that was there. An equal key that is there stays, also where it
@@ -165,27 +170,18 @@ impl<K: Ord + Drop, V: Drop> Map<K, V> {
         Ok(map)
     }
 
-    /// The map of entries that are in the order of their keys already. It takes no comparison but one an entry and
-    /// level of the tree. It fails only for want of memory.
-    pub fn from_sorted(alloc: Global, mut entries: Vec<(K, V)>) -> Mem<Map<K, V>>
+    /// The map of entries that are in the order of their keys already. It fails only for want of memory.
+    pub fn from_sorted(alloc: Global, entries: Vec<(K, V)>) -> Mem<Map<K, V>>
         requires { IsSortedMap K.cmp entries.items }
         ensures { IfOk result (λ m. m ≡ entries.items) }
     {
-        let mut map = Map::new(alloc);
-        while let Some((key, value)) = entries.pop() {
-            map.push_first(key, value)?;
+        let mut boxed = Vec::with_capacity(alloc, entries.len())?;
+        for (key, value) in entries {
+            let value = Boxed::new(alloc, value)?;
+            boxed.push((key, value))?;
         }
-        Ok(map)
-    }
-
-    /// Puts an entry before all others, which is the cheapest place. It fails only for want of memory, and then
-    /// changes nothing.
-    pub fn push_first(&mut self, key: K, value: V) -> Mem<()>
-        requires { IsStrictlySortedBy K.cmp (key ∷ keys_of self.old) }
-        ensures ok { OnOk result (self.new ≡ (key, value) ∷ self.old) }
-        ensures err { OnErr result (self.new ≡ self.old) }
-    {
-        self.put(key, value)
+        let map = Entries::of_sorted(alloc, boxed)?;
+        Ok(Map { alloc, map })
     }
 
     /// Puts an entry after all others. It fails only for want of memory, and then changes nothing.
@@ -194,7 +190,8 @@ impl<K: Ord + Drop, V: Drop> Map<K, V> {
         ensures ok { OnOk result (self.new ≡ self.old ++ (key, value) ∷ []) }
         ensures err { OnErr result (self.new ≡ self.old) }
     {
-        self.put(key, value)
+        let value = Boxed::new(self.alloc, value)?;
+        self.map.push(key, value)
     }
 }
 
@@ -214,14 +211,15 @@ impl<V> Map<Text, V> {
 
 impl<K: Ord + Dup + Drop, V: Dup + Drop> Dup for Map<K, V> {
     fn dup(&self, alloc: Global) -> Mem<Map<K, V>> {
-        let mut copies = Map::new(alloc);
-        let mut rest = self.iter();
-        while let Some((key, value)) = rest.next_back() {
+        let mut copies = Vec::with_capacity(alloc, self.len())?;
+        for (key, value) in self.iter() {
             let key = key.dup(alloc)?;
             let value = value.dup(alloc)?;
-            copies.push_first(key, value)?;
+            let value = Boxed::new(alloc, value)?;
+            copies.push((key, value))?;
         }
-        Ok(copies)
+        let map = Entries::of_sorted(alloc, copies)?;
+        Ok(Map { alloc, map })
     }
 }
 
@@ -231,7 +229,7 @@ impl<K: Ord, V: PartialEq> PartialEq for Map<K, V> {
     ghost laws = { lists_per (and_per (on_per (λ p. p.0) K.PartialEq.laws) (on_per (λ p. p.1) V.laws)) };
 
     fn eq(&self, other: &Self) -> bool {
-        self.map == other.map
+        same_entries(self.map.iter(), other.map.iter())
     }
 }
 
@@ -245,7 +243,7 @@ impl<K: Ord, V: PartialOrd> PartialOrd for Map<K, V> {
     ghost laws = { lists_po (then_po (on_po (λ p. p.0) K.PartialOrd.laws) (on_po (λ p. p.1) V.PartialOrd.laws)) };
 
     fn partial_cmp(&self, other: &Self) -> Option<Ordering> {
-        self.map.partial_cmp(&other.map)
+        partially_compare_entries(self.map.iter(), other.map.iter())
     }
 }
 
@@ -261,6 +259,6 @@ impl<K: Ord, V: Ord> Ord for Map<K, V> {
         (λ p q. both_tied _ _ (K' p.0 q.0) (V' p.1 q.1) (K.matches_eq p.0 q.0) (V.matches_eq p.1 q.1)) };
 
     fn cmp(&self, other: &Self) -> Ordering {
-        self.map.cmp(&other.map)
+        compare_entries(self.map.iter(), other.map.iter())
     }
 }

@@ -1,25 +1,70 @@
 // SPDX-License-Identifier: Apache-2.0
 ghost use Rattle.std.specs.Prelude.{◌≡◌, length};
 ghost use Rattle.std.specs.Iterator.{at_most};
-ghost use Rattle.std.specs.Map.{values_of};
-ghost use Rattle.std_collections.specs.Map.Iter.{TakesFirst, TakesLast, deref, deref_pair};
+ghost use Rattle.std.specs.Map.{keys_of, values_of};
+ghost use Rattle.std_collections.specs.Map.Iter.{TakesFirst, deref, deref_pair};
 
 use crate::boxed::Boxed;
-use std::alloc::Global;
-use std::collections::btree_map::{IntoIter, Iter, Keys, Values};
-use std::iter::{DoubleEndedIterator, ExactSizeIterator, Iterator};
+use crate::entries_iter::{EntriesIntoIter, EntriesIter};
+use std::iter::{ExactSizeIterator, Iterator};
 use std::marker::Model;
 
 /// The keys of a map, in their order.
-pub type MapKeys<'a, K, V> = Keys<'a, K, Boxed<V>>;
+#[derive(Drop)]
+pub struct MapKeys<'a, K: Ord, V> {
+    entries: EntriesIter<'a, K, Boxed<V>>,
+}
+
+impl<'a, K: Ord, V> Model for MapKeys<'a, K, V> {
+    ghost use Rattle.std.specs.Prelude.{List};
+    ghost use Rattle.std.specs.Map.{keys_of};
+
+    ghost Value = { List K };
+
+    ghost view = { λ i. keys_of i.entries };
+}
+
+impl<'a, K: Ord, V> MapKeys<'a, K, V> {
+    pub(crate) fn of(entries: EntriesIter<'a, K, Boxed<V>>) -> MapKeys<'a, K, V>
+        ensures { result ≡ keys_of entries.entry }
+    {
+        MapKeys { entries }
+    }
+}
+
+impl<'a, K: Ord, V> Iterator for MapKeys<'a, K, V> {
+    type Item = &'a K;
+
+    ghost next_gives = { TakesFirst deref };
+
+    ghost remaining = { λ s. at_most (length s) };
+
+    fn next(&mut self) -> Option<&'a K> {
+        match self.entries.next() {
+            Some((key, _)) => Some(key),
+            None => None,
+        }
+    }
+
+    fn size_hint(&self) -> (usize, Option<usize>) {
+        let len = self.len();
+        (len, Some(len))
+    }
+}
+
+impl<'a, K: Ord, V> ExactSizeIterator for MapKeys<'a, K, V> {
+    fn len(&self) -> usize {
+        self.entries.len()
+    }
+}
 
 /// The entries of a map, in the order of their keys.
 #[derive(Drop)]
-pub struct MapIter<'a, K, V> {
-    entries: Iter<'a, K, Boxed<V>>,
+pub struct MapIter<'a, K: Ord, V> {
+    entries: EntriesIter<'a, K, Boxed<V>>,
 }
 
-impl<'a, K, V> Model for MapIter<'a, K, V> {
+impl<'a, K: Ord, V> Model for MapIter<'a, K, V> {
     ghost use Rattle.std.specs.Prelude.{List};
 
     ghost Value = { List (K × V) };
@@ -27,15 +72,15 @@ impl<'a, K, V> Model for MapIter<'a, K, V> {
     ghost view = { λ i. i.entries };
 }
 
-impl<'a, K, V> MapIter<'a, K, V> {
-    pub(crate) fn of(entries: Iter<'a, K, Boxed<V>>) -> MapIter<'a, K, V>
+impl<'a, K: Ord, V> MapIter<'a, K, V> {
+    pub(crate) fn of(entries: EntriesIter<'a, K, Boxed<V>>) -> MapIter<'a, K, V>
         ensures { result ≡ entries.entry }
     {
         MapIter { entries }
     }
 }
 
-impl<'a, K, V> Iterator for MapIter<'a, K, V> {
+impl<'a, K: Ord, V> Iterator for MapIter<'a, K, V> {
     type Item = (&'a K, &'a V);
 
     ghost next_gives = { TakesFirst deref_pair };
@@ -50,40 +95,30 @@ impl<'a, K, V> Iterator for MapIter<'a, K, V> {
     }
 }
 
-impl<'a, K, V> DoubleEndedIterator for MapIter<'a, K, V> {
-    ghost next_back_gives = { TakesLast deref_pair };
-
-    fn next_back(&mut self) -> Option<(&'a K, &'a V)> {
-        match self.entries.next_back() {
-            Some((key, value)) => Some((key, value.get())),
-            None => None,
-        }
-    }
-}
-
 /// The values of a map, in the order of their keys.
 #[derive(Drop)]
-pub struct MapValues<'a, K, V> {
-    values: Values<'a, K, Boxed<V>>,
+pub struct MapValues<'a, K: Ord, V> {
+    entries: EntriesIter<'a, K, Boxed<V>>,
 }
 
-impl<'a, K, V> Model for MapValues<'a, K, V> {
+impl<'a, K: Ord, V> Model for MapValues<'a, K, V> {
     ghost use Rattle.std.specs.Prelude.{List};
+    ghost use Rattle.std.specs.Map.{values_of};
 
     ghost Value = { List V };
 
-    ghost view = { λ i. i.values };
+    ghost view = { λ i. values_of i.entries };
 }
 
-impl<'a, K, V> MapValues<'a, K, V> {
-    pub(crate) fn of(values: Values<'a, K, Boxed<V>>) -> MapValues<'a, K, V>
-        ensures { result ≡ values.entry }
+impl<'a, K: Ord, V> MapValues<'a, K, V> {
+    pub(crate) fn of(entries: EntriesIter<'a, K, Boxed<V>>) -> MapValues<'a, K, V>
+        ensures { result ≡ values_of entries.entry }
     {
-        MapValues { values }
+        MapValues { entries }
     }
 }
 
-impl<'a, K, V> Iterator for MapValues<'a, K, V> {
+impl<'a, K: Ord, V> Iterator for MapValues<'a, K, V> {
     type Item = &'a V;
 
     ghost next_gives = { TakesFirst deref };
@@ -91,8 +126,8 @@ impl<'a, K, V> Iterator for MapValues<'a, K, V> {
     ghost remaining = { λ s. at_most (length s) };
 
     fn next(&mut self) -> Option<&'a V> {
-        match self.values.next() {
-            Some(value) => Some(value.get()),
+        match self.entries.next() {
+            Some((_, value)) => Some(value.get()),
             None => None,
         }
     }
@@ -103,19 +138,19 @@ impl<'a, K, V> Iterator for MapValues<'a, K, V> {
     }
 }
 
-impl<'a, K, V> ExactSizeIterator for MapValues<'a, K, V> {
+impl<'a, K: Ord, V> ExactSizeIterator for MapValues<'a, K, V> {
     fn len(&self) -> usize {
-        self.values.len()
+        self.entries.len()
     }
 }
 
 /// The entries of a map by value, in the order of their keys.
 #[derive(Drop)]
-pub struct MapIntoIter<K, V> {
-    entries: IntoIter<K, Boxed<V>>,
+pub struct MapIntoIter<K: Ord, V> {
+    entries: EntriesIntoIter<K, Boxed<V>>,
 }
 
-impl<K, V> Model for MapIntoIter<K, V> {
+impl<K: Ord, V> Model for MapIntoIter<K, V> {
     ghost use Rattle.std.specs.Prelude.{List};
 
     ghost Value = { List (K × V) };
@@ -123,15 +158,15 @@ impl<K, V> Model for MapIntoIter<K, V> {
     ghost view = { λ i. i.entries };
 }
 
-impl<K, V> MapIntoIter<K, V> {
-    pub(crate) fn of(entries: IntoIter<K, Boxed<V>>) -> MapIntoIter<K, V>
+impl<K: Ord, V> MapIntoIter<K, V> {
+    pub(crate) fn of(entries: EntriesIntoIter<K, Boxed<V>>) -> MapIntoIter<K, V>
         ensures { result ≡ entries }
     {
         MapIntoIter { entries }
     }
 }
 
-impl<K: Drop, V: Drop> Iterator for MapIntoIter<K, V> {
+impl<K: Ord + Drop, V: Drop> Iterator for MapIntoIter<K, V> {
     type Item = (K, V);
 
     ghost next_gives = { TakesFirst (λ p. p) };

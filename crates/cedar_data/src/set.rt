@@ -1,36 +1,79 @@
 // SPDX-License-Identifier: Apache-2.0
 ghost use Rattle.std.specs.Prelude.{◌≡◌, [], ◌∷◌, ◌++◌, ◌↔◌, length, not, IsTrue, IfOk, OnOk, OnErr};
 ghost use Rattle.std.specs.BTreeSet.{insert_key};
+ghost use Rattle.std.specs.Iterator.{at_most};
 ghost use Rattle.std.specs.List.Sorted.{IsStrictlySortedBy};
+ghost use Rattle.std_collections.specs.Map.Iter.{TakesFirst, deref};
 ghost use Rattle.std.specs.Cmp.Lexicographic.{pointwise, slice_cmp, slice_partial_cmp, lists_per, lists_equiv, lists_po, lists_total, lists_agrees, lists_ties};
 ghost use Rattle.cedar_data.specs.Sets.{contains, Adds};
 
+use crate::comparing::{compare_entries, partially_compare_entries, same_entries};
 use crate::dup::Dup;
+use crate::entries::Entries;
+use crate::entries_iter::EntriesIter;
 use crate::memory::Mem;
 use std::alloc::Global;
 use std::cmp::Ordering;
-use std::collections::BTreeSet;
-use std::collections::btree_set::Iter;
+use std::iter::{ExactSizeIterator, Iterator};
 use std::marker::Model;
 
 /// The keys of a set, in their order.
-pub type SetIter<'a, K> = Iter<'a, K>;
+#[derive(Debug, Drop)]
+pub struct SetIter<'a, K: Ord> {
+    keys: EntriesIter<'a, K, ()>,
+}
+
+impl<'a, K: Ord> Model for SetIter<'a, K> {
+    ghost use Rattle.std.specs.Prelude.{List};
+    ghost use Rattle.std.specs.Map.{keys_of};
+
+    ghost Value = { List K };
+
+    ghost view = { λ i. keys_of i.keys };
+}
+
+impl<'a, K: Ord> Iterator for SetIter<'a, K> {
+    type Item = &'a K;
+
+    ghost next_gives = { TakesFirst deref };
+
+    ghost remaining = { λ s. at_most (length s) };
+
+    fn next(&mut self) -> Option<&'a K> {
+        match self.keys.next() {
+            Some((key, _)) => Some(key),
+            None => None,
+        }
+    }
+
+    fn size_hint(&self) -> (usize, Option<usize>) {
+        let len = self.len();
+        (len, Some(len))
+    }
+}
+
+impl<'a, K: Ord> ExactSizeIterator for SetIter<'a, K> {
+    fn len(&self) -> usize {
+        self.keys.len()
+    }
+}
 
 /// A set in the order of its keys, that contracts see as the list of them, so that a copy equals its source.
 #[derive(Debug, Drop)]
 pub struct Set<K: Ord> {
-    keys: BTreeSet<K>,
+    keys: Entries<K, ()>,
 }
 
 impl<K: Ord> Model for Set<K> {
     ghost use Rattle.std.specs.Prelude.{List};
+    ghost use Rattle.std.specs.Map.{keys_of};
     ghost use Rattle.std.specs.Coded.{coded_list};
 
     ghost Value = { List K };
 
     ghost coded = { coded_list K.code };
 
-    ghost view = { λ s. s.keys.keys };
+    ghost view = { λ s. keys_of s.keys };
 }
 
 impl<K: Ord> Set<K> {
@@ -39,7 +82,7 @@ impl<K: Ord> Set<K> {
         ensures { result ≡ [] }
     {
         Set {
-            keys: BTreeSet::new(alloc),
+            keys: Entries::new(alloc),
         }
     }
 
@@ -55,14 +98,14 @@ impl<K: Ord> Set<K> {
     pub fn is_empty(&self) -> bool
         ensures { IsTrue result ↔ (self.now ≡ []) }
     {
-        self.keys.is_empty()
+        self.keys.len() == 0
     }
 
     /// Whether a key is equal to `key` in the order of the keys.
     pub fn contains(&self, key: &K) -> bool
         ensures { result ≡ contains K.cmp self.now key.now }
     {
-        self.keys.contains(key)
+        self.keys.get(key).is_some()
     }
 
     /// The keys, in their order.
@@ -70,7 +113,9 @@ impl<K: Ord> Set<K> {
         ensures rest { result ≡ self.now }
         ensures ordered { IsStrictlySortedBy K.cmp self.now }
     {
-        self.keys.iter()
+        SetIter {
+            keys: self.keys.iter(),
+        }
     }
 }
 
@@ -84,31 +129,21 @@ impl<K: Ord + Drop> Set<K> {
         ensures err { OnErr result (self.new ≡ self.old) }
         ensures ordered { IsStrictlySortedBy K.cmp self.new }
     {
-        let added = self.keys.insert(key)?;
-        Ok(added)
+        let old = self.keys.insert(key, ())?;
+        Ok(old.is_none())
     }
 
     /// The set of keys that are in their order already. It fails only for want of memory.
-    pub fn from_sorted(alloc: Global, mut keys: Vec<K>) -> Mem<Set<K>>
+    pub fn from_sorted(alloc: Global, keys: Vec<K>) -> Mem<Set<K>>
         requires { IsStrictlySortedBy K.cmp keys.items }
         ensures { IfOk result (λ s. s ≡ keys.items) }
     {
-        let mut set = Set::new(alloc);
-        while let Some(key) = keys.pop() {
-            set.push_first(key)?;
+        let mut entries = Vec::with_capacity(alloc, keys.len())?;
+        for key in keys {
+            entries.push((key, ()))?;
         }
-        Ok(set)
-    }
-
-    /// Puts a key before all others, which is the cheapest place. It fails only for want of memory, and then changes
-    /// nothing.
-    pub fn push_first(&mut self, key: K) -> Mem<()>
-        requires { IsStrictlySortedBy K.cmp (key ∷ self.old) }
-        ensures ok { OnOk result (self.new ≡ key ∷ self.old) }
-        ensures err { OnErr result (self.new ≡ self.old) }
-    {
-        self.insert(key)?;
-        Ok(())
+        let keys = Entries::of_sorted(alloc, entries)?;
+        Ok(Set { keys })
     }
 
     /// Puts a key after all others. It fails only for want of memory, and then changes nothing.
@@ -124,13 +159,13 @@ impl<K: Ord + Drop> Set<K> {
 
 impl<K: Ord + Dup + Drop> Dup for Set<K> {
     fn dup(&self, alloc: Global) -> Mem<Set<K>> {
-        let mut copies = Set::new(alloc);
-        let mut rest = self.iter();
-        while let Some(key) = rest.next_back() {
+        let mut copies = Vec::with_capacity(alloc, self.len())?;
+        for key in self.iter() {
             let copy = key.dup(alloc)?;
-            copies.push_first(copy)?;
+            copies.push((copy, ()))?;
         }
-        Ok(copies)
+        let keys = Entries::of_sorted(alloc, copies)?;
+        Ok(Set { keys })
     }
 }
 
@@ -140,7 +175,7 @@ impl<K: Ord> PartialEq for Set<K> {
     ghost laws = { lists_per K.PartialEq.laws };
 
     fn eq(&self, other: &Self) -> bool {
-        self.keys == other.keys
+        same_entries(self.keys.iter(), other.keys.iter())
     }
 }
 
@@ -154,7 +189,7 @@ impl<K: Ord> PartialOrd for Set<K> {
     ghost laws = { lists_po K.PartialOrd.laws };
 
     fn partial_cmp(&self, other: &Self) -> Option<Ordering> {
-        self.keys.partial_cmp(&other.keys)
+        partially_compare_entries(self.keys.iter(), other.keys.iter())
     }
 }
 
@@ -168,6 +203,6 @@ impl<K: Ord> Ord for Set<K> {
     ghost matches_eq = { lists_ties K.cmp K.matches_eq };
 
     fn cmp(&self, other: &Self) -> Ordering {
-        self.keys.cmp(&other.keys)
+        compare_entries(self.keys.iter(), other.keys.iter())
     }
 }

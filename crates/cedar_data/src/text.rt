@@ -1,40 +1,41 @@
 // SPDX-License-Identifier: Apache-2.0
-ghost use Rattle.std.specs.Prelude.{◌≡◌, List, ℕ, IfOk, Some, refl, length, nat_eq, nat_lt};
+ghost use Rattle.std.specs.Prelude.{◌≡◌, ◌≤◌, List, ℕ, IfOk, Some, refl, length, nat_eq, nat_lt};
 ghost use Rattle.std.specs.Rc.{rc_str_bytes};
 ghost use Rattle.std.specs.Cmp;
 ghost use Rattle.std.specs.Cmp.Lexicographic.{pointwise, slice_cmp, nat_list_eq_equiv, nat_list_cmp_total, bytes_decides, texts_ties, texts_po};
 ghost use Rattle.std.specs.Hash as fed;
 ghost use Rattle.std.specs.Hash.{same_Alike};
 ghost use Rattle.std.specs.Ordering.{nat_cmp};
-ghost use Rattle.cedar_data.specs.Fronts.{IsFront};
+ghost use Rattle.cedar_data.specs.Fronts.{IsFront, IsFrontNumber, held_text};
 
 use crate::dup::Dup;
 use crate::memory::Mem;
 use std::alloc::Global;
 use std::cmp::Ordering;
-use std::fmt;
 use std::hash::{Hash, Hasher};
 use std::marker::Model;
 use std::rc::RcStr;
+use std::{fmt, str};
 
-/// Shared text. A copy shares the bytes of its source.
+/// Shared text. A copy shares the memory of its source.
 #[derive(Debug, Drop)]
 pub struct Text {
-    /// The first bytes and the length as a number, which mostly decides a comparison alone.
-    front: u64,
+    /// The first seven bytes, zeros behind fewer, and then the length, or 8 where it is longer.
+    front: [u8; 8],
+    /// The bytes of a text that its front doesn't hold. A shorter one needs none, and keeps any.
     shared: RcStr,
 }
 
 impl Model for Text {
     ghost Value = { List ℕ };
 
-    ghost view = { λ t. rc_str_bytes t.shared };
+    ghost view = { λ t. held_text t.front (rc_str_bytes t.shared) };
 
-    ghost invariant = { λ t. IsFront t.front (rc_str_bytes t.shared) };
+    ghost invariant = { λ t. IsFront t.front (held_text t.front (rc_str_bytes t.shared)) };
 }
 
 /// The front of `text`: its first seven bytes, and then its length, or 8 where it is longer.
-fn front_of(text: &str) -> u64
+fn front_of(text: &str) -> [u8; 8]
     ensures { IsFront result text.now }
 {
     let bytes = text.as_bytes();
@@ -43,7 +44,8 @@ fn front_of(text: &str) -> u64
         let digit = bytes.get(at).copied().unwrap_or(0);
         digits = digits * 256 + digit as u64;
     }
-    digits * 256 + bytes.len().min(8) as u64
+    let front = digits * 256 + bytes.len().min(8) as u64;
+    front.to_be_bytes()
 }
 
 impl Text {
@@ -51,23 +53,60 @@ impl Text {
     pub fn new(alloc: Global, s: &str) -> Mem<Text>
         ensures { IfOk result (λ t. t ≡ s.now) }
     {
-        let front = front_of(s);
+        if s.len() < 8 {
+            let shared = RcStr::from_str(alloc, "")?;
+            return Ok(Text::held(s, shared));
+        }
         let shared = RcStr::from_str(alloc, s)?;
-        Ok(Text { front, shared })
+        Ok(Text::held(s, shared))
+    }
+
+    /// The text with the bytes of `s`. Where they are fewer than eight it takes no memory, and shares that of
+    /// this text. It fails only for want of memory.
+    pub fn beside(&self, alloc: Global, s: &str) -> Mem<Text>
+        ensures { IfOk result (λ t. t ≡ s.now) }
+    {
+        if s.len() < 8 {
+            let shared = self.shared.clone()?;
+            return Ok(Text::held(s, shared));
+        }
+        Text::new(alloc, s)
+    }
+
+    /// The text with the bytes of `s`, which are shared where the front doesn't hold them.
+    fn held(s: &str, shared: RcStr) -> Text
+        requires { 8 ≤ length s.now → rc_str_bytes shared ≡ s.now }
+        ensures { result ≡ s.now }
+    {
+        Text {
+            front: front_of(s),
+            shared,
+        }
     }
 
     /// The text as a `str`.
     pub fn as_str(&self) -> &str
         ensures { result.now ≡ self.now }
     {
-        self.shared.as_str()
+        if !self.is_short() {
+            return self.shared.as_str();
+        }
+        let length = self.front[7] as usize;
+        unsafe { str::from_utf8_unchecked(&self.front[..length]) }
     }
 
     /// Whether the front holds the whole text.
     fn is_short(&self) -> bool
         ensures { result ≡ nat_lt (length self.now) 8 }
     {
-        self.front % 256 < 8
+        self.front[7] < 8
+    }
+
+    /// The front as a number, which mostly decides a comparison alone.
+    fn number(&self) -> u64
+        ensures { IsFrontNumber result self.now }
+    {
+        u64::from_be_bytes(self.front)
     }
 }
 
@@ -87,7 +126,7 @@ impl PartialEq for Text {
     ghost laws = { Cmp.partial_equiv_from_equiv nat_list_eq_equiv };
 
     fn eq(&self, other: &Self) -> bool {
-        self.front == other.front && (self.is_short() || self.as_str() == other.as_str())
+        self.number() == other.number() && (self.is_short() || self.as_str() == other.as_str())
     }
 }
 
@@ -115,10 +154,11 @@ impl Ord for Text {
     ghost matches_eq = { texts_ties };
 
     fn cmp(&self, other: &Self) -> Ordering {
-        if self.front < other.front {
+        let (one, another) = (self.number(), other.number());
+        if one < another {
             return Ordering::Less;
         }
-        if other.front < self.front {
+        if another < one {
             return Ordering::Greater;
         }
         if self.is_short() {

@@ -1,10 +1,11 @@
 -- SPDX-License-Identifier: Apache-2.0
 -- Keys that references mean.
-use Rattle.std.proofs.Common.{◌≡◌, ◌||◌, ℕ, Bool, true, false, cond, not, IsTrue, MatchOption, List, [], ◌∷◌, Option, Some, None, option_map, map, refl, sym, ap, ◌∙◌}
+use Rattle.std.proofs.Common.{◌≡◌, ◌||◌, ℕ, Bool, true, false, cond, not, IsTrue, MatchOption, List, [], ◌∷◌, Option, Some, None, option_map, map, refl, sym, ap, ◌∙◌, subst}
 use Rattle.std.proofs.lemmas.Cmp.{eq_by_cmp_equiv}
 use Rattle.std.specs.BTreeMap.{is_at}
 use Rattle.std.specs.Cmp.{IsTotalOrder}
 use Rattle.std.specs.List.{cons_option, filter_map, find, list_any}
+use Rattle.std.specs.List.Sorted.{IsStrictlySortedBy}
 use Rattle.std.specs.Option.{option_map_or}
 use Rattle.std.specs.declared.cmp.Ordering.{Ordering}
 use Rattle.cedar_data.specs.Sets.{contains, Adds}
@@ -46,6 +47,19 @@ turned false false x = refl
 -- one reference more
 pub meant_next : (a h x y z : Bool) → y ≡ (h || x) → ((h || a) || x) ≡ z → (a || y) ≡ z
 meant_next a h x y z e f = ap (λ t. a || t) e ∙ turned a h x ∙ f
+
+-- before the first reference
+pub meant_start : {K : Type 0} (cmp : K → K → Ordering) (keys : List K) (key : K) (left all : Bool) → keys ≡ [] → left ≡ all → (left || contains cmp keys key) ≡ all
+meant_start cmp keys key left all none same = ap (λ ks. left || contains cmp ks key) none ∙ nothing left ∙ same
+  where
+    nothing : (b : Bool) → (b || false) ≡ b
+    nothing true = refl
+    nothing false = refl
+
+-- no keys are in order
+pub none_sorted : {K : Type 0} (cmp : K → K → Ordering) (keys : List K) → keys ≡ [] → IsStrictlySortedBy cmp keys
+unfolding IsStrictlySortedBy
+none_sorted cmp keys none = subst (λ ks. IsStrictlySortedBy cmp ks) (sym none) tt
 
 -- what some reference means is among what they give
 pub any_meant : {N R S : Type 0} (order : N → N → Ordering) (target : R → Option N) (f : S → R) (rs : List S) (n : N) → list_any (λ r. is_here order (target (f r)) n) rs ≡ contains order (filter_map target (map f rs)) n

@@ -8,15 +8,15 @@ ghost use Rattle.cedar_json_types.specs.Shapes.{ArrayOf, EachItem, MayHave, Noth
 ghost use Rattle.cedar_json_values.specs.ActionValues.{ValuePart, ValuesShape};
 ghost use Rattle.cedar_json_read.specs.Declarations.{IsAction, IsApplySpec, IsParent, action_fault, apply_fault, parent_fault, values_fault};
 
+use crate::notes::with_notes;
 use crate::parts::{if_not_null, shape_at};
 use crate::reading::ReadDeclaration;
 use cedar_data::{Items, Out, Text};
 use cedar_fragment::{ActionEntityUID, ActionType, ApplySpec, RawName, ValueMap};
 use cedar_json_fault::{JsonDeserializationError, JsonKind};
 use cedar_json_types as parts;
-use cedar_json_types::{KeySet, check_keys, needed, under, under_place, unless_absent, wrong_type};
+use cedar_json_types::{KeySet, check_keys, needed, under, under_place, wrong_type};
 use cedar_json_values::read_values;
-use cedar_names::Annotations;
 use serde_json::Value;
 use std::alloc::Global;
 
@@ -170,7 +170,9 @@ impl ReadDeclaration for ActionType<RawName> {
         let attributes = values_at(alloc, json)?;
         let applies_to: Option<ApplySpec<RawName>> = if_not_null(alloc, json, "appliesTo")?;
         let member_of = parents_at(alloc, json)?;
-        let annotations: Annotations = unless_absent(alloc, json, "annotations")?;
+        let made = (attributes, applies_to, member_of);
+        let (made, annotations) = with_notes(alloc, json, made)?;
+        let (attributes, applies_to, member_of) = made;
         Ok(ActionType {
             attributes,
             applies_to,

@@ -8,6 +8,7 @@ ghost use Rattle.std.specs.Prelude.{codes, []};
 ghost use Rattle.cedar_json_types.specs.Faults.{first, needs};
 ghost use Rattle.cedar_json_types.specs.Shapes.{At};
 
+use crate::notes::with_notes;
 use crate::parts::shape_at;
 use crate::reading::ReadDeclaration;
 use cedar_data::{Items, Mem, Out, Text};
@@ -177,26 +178,6 @@ fn read_kind(alloc: Global, value: &Value) -> Out<EntityTypeKind<RawName>, JsonD
     }
 }
 
-/// The entity type of this kind, with what is said of it.
-fn with_notes(
-    alloc: Global,
-    value: &Value,
-    kind: EntityTypeKind<RawName>,
-) -> Out<EntityType<RawName>, JsonDeserializationError>
-    ensures kind { IfOk result (λ e. e.kind ≡ kind) }
-    ensures shape { IfOk result (λ e. declarations.Noted (view value.now) e.annotations
-        × (e.loc ≡ None)) }
-    ensures clean { IfOk result (λ _. declarations.notes_fault (view value.now) ≡ None) }
-    ensures refused { IfRefused result (λ e. declarations.notes_fault (view value.now) ≡ Some e) }
-{
-    let annotations: Annotations = unless_absent(alloc, value, "annotations")?;
-    Ok(EntityType {
-        kind,
-        annotations,
-        loc: None,
-    })
-}
-
 impl ReadDeclaration for EntityType<RawName> {
     ghost shapes = { IsEntityType };
 
@@ -208,6 +189,11 @@ impl ReadDeclaration for EntityType<RawName> {
     ) -> Out<EntityType<RawName>, JsonDeserializationError> {
         check_keys(alloc, json, KeySet::EntityType)?;
         let kind = read_kind(alloc, json)?;
-        with_notes(alloc, json, kind)
+        let (kind, annotations) = with_notes(alloc, json, kind)?;
+        Ok(EntityType {
+            kind,
+            annotations,
+            loc: None,
+        })
     }
 }

@@ -5,6 +5,7 @@
 
 mod actions;
 mod entities;
+mod notes;
 mod parts;
 mod reading;
 

@@ -37,7 +37,7 @@ impl Listed for EntityUID {
 
 /// Writes a list: its items in brackets.
 #[tactic(auto, using(cedar_streams::proofs::InOrder::in_order))]
-pub(crate) fn write_list<X: Listed, K: Sink>(
+pub(crate) fn write_list<X: Listed + Ord, K: Sink>(
     items: SetIter<'_, X>,
     out: &mut K,
 ) -> Result<(), SinkFailed>
@@ -50,7 +50,10 @@ pub(crate) fn write_list<X: Listed, K: Sink>(
 }
 
 /// Writes items with commas between them.
-fn write_items<X: Listed, K: Sink>(items: SetIter<'_, X>, out: &mut K) -> Result<(), SinkFailed>
+fn write_items<X: Listed + Ord, K: Sink>(
+    items: SetIter<'_, X>,
+    out: &mut K,
+) -> Result<(), SinkFailed>
     ensures { Writes K.written K.faults out.old out.new
         (joined (codes ", ") (map X.text_of items.entry)) result }
 {

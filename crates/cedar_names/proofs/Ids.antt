@@ -15,7 +15,7 @@ UnreservedId-same id other u v e =
     (λ w. let p : IsProp (IsTrue (not (is_cedar id.word))) = hlevel props in ap (λ (t : IsTrue (not (is_cedar id.word))). let x : UnreservedId = record { id = id; unreserved = t } in x) (p u w)) v
 
 -- an identifier is its word
-Id-same : (word other : List ℕ) (f : IsTrue (is_id word)) (g : IsTrue (is_id other)) → word ≡ other
+pub Id-same : (word other : List ℕ) (f : IsTrue (is_id word)) (g : IsTrue (is_id other)) → word ≡ other
     → ◌≡◌ {A = Id} record { word = word; form = f } record { word = other; form = g }
 Id-same word other f g e =
     subst (λ (x : List ℕ). (h : IsTrue (is_id x)) → ◌≡◌ {A = Id} record { word = word; form = f } record { word = x; form = h }) e

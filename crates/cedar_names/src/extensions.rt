@@ -9,15 +9,14 @@ ghost use Rattle.cedar_names.specs.Order.{word_cmp};
 ghost use Rattle.cedar_text.specs.Words.{has_word, is_primitive_word, is_unreserved_id};
 
 use crate::id::UnreservedId;
-use cedar_data::{Dup, Failure, Mem, Out, Set, Text};
+use cedar_data::{Dup, Failure, Mem, Out, Set, SetIter, Text};
 use cedar_text::{NameFault, Span, is_primitive_word};
 use std::alloc::Global;
-use std::collections::btree_set::Iter;
 use std::error::Error;
 use std::fmt;
 
 /// Names of extension types, in their order.
-pub type ExtIter<'a> = Iter<'a, UnreservedId>;
+pub type ExtIter<'a> = SetIter<'a, UnreservedId>;
 
 /// The names of the extension types that a schema may use: distinct, and none that of a primitive type.
 #[derive(Debug, Drop, PartialEq, Eq)]

@@ -33,6 +33,18 @@ impl Id {
         Ok(Some(Id { word }))
     }
 
+    /// As `new`. Where the text is short, it shares the memory of `near`.
+    pub fn beside(alloc: Global, near: &Text, s: &str) -> Mem<Option<Id>>
+        ensures { IfOk result (λ id. MatchOption id (is_id s.now
+            ≡ false) (λ id. (id_word id ≡ s.now) × IsTrue (is_id s.now))) }
+    {
+        if !is_word(s) || is_reserved_word(s) {
+            return Ok(None);
+        }
+        let word = near.beside(alloc, s)?;
+        Ok(Some(Id { word }))
+    }
+
     /// The identifier that the text is; refused with what is wrong with it.
     pub fn from_normalized_str(alloc: Global, s: &str) -> Out<Id, NameFault>
         ensures ok { IfOk result (λ id. (word_fault no_id s.now ≡ None) × (id_word id ≡ s.now)) }

@@ -93,7 +93,7 @@ impl<'s> Parser<'s> {
     {
         let Node { node: key, loc } = key;
         let Some(Node { node: literal, loc }) = value else {
-            let val = Text::new(self.alloc, "")?;
+            let val = self.source.beside(self.alloc, "")?;
             let loc = Some(self.place(at.start, loc.end)?);
             return Ok((key, Annotation { val, loc }));
         };

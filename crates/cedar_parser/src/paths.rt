@@ -103,9 +103,8 @@ impl<'s> Parser<'s> {
     {
         if let None = self.accept_mark(tokens, "::") {
             let Node { node, loc } = first;
-            let eid = Text::new(self.alloc, node.as_ref())?;
             return Ok(Node {
-                node: QualName::unqualified(eid),
+                node: QualName::unqualified(node.into_text()),
                 loc,
             });
         }

@@ -130,7 +130,7 @@ impl<'s> Parser<'s> {
         if rest.is_empty() || rest[0].kind != TokenKind::Word {
             return Ok(None);
         }
-        let Some(node) = Id::new(self.alloc, rest[0].text)? else {
+        let Some(node) = Id::beside(self.alloc, self.source, rest[0].text)? else {
             return Ok(None);
         };
         let loc = self.place(rest[0].start, rest[0].end)?;
@@ -161,7 +161,7 @@ impl<'s> Parser<'s> {
         };
         match unescape(self.alloc, body) {
             Ok(value) => {
-                let value = Text::new(self.alloc, value.as_str())?;
+                let value = self.source.beside(self.alloc, value.as_str())?;
                 Ok(Some(value))
             }
             Err(Failure::Refused(_)) => Ok(None),
@@ -221,7 +221,7 @@ impl<'s> Parser<'s> {
         if rest.is_empty() || rest[0].kind != TokenKind::Word {
             return Err(stops_before(rest));
         }
-        let node = Text::new(self.alloc, rest[0].text)?;
+        let node = self.source.beside(self.alloc, rest[0].text)?;
         let loc = self.place(rest[0].start, rest[0].end)?;
         tokens.rest = &rest[1..];
         Ok(Node { node, loc })

@@ -61,7 +61,7 @@ impl<'s> Parser<'s> {
         ensures { IfOk result (λ id. node_of id_word id
             ≡ lexeme_node self.now.source.now set.entry) }
     {
-        let word = Text::new(self.alloc, set.text)?;
+        let word = self.source.beside(self.alloc, set.text)?;
         let loc = self.place(set.start, set.end)?;
         Ok(Node {
             node: Id::of_word(word),

@@ -135,10 +135,24 @@ fn put_annotation(
         node: (key, value),
         loc,
     } = annotation;
-    let place = key.loc.span();
-    note(places, key.node.dup(alloc)?, place)?;
+    note_key(alloc, places, &key)?;
     put_value(alloc, unique, key.node, value, loc)?;
     Ok(())
+}
+
+/// Notes a key and its place; refused where it was noted before.
+fn note_key(alloc: Global, places: &mut Map<AnyId, Span>, key: &Node<AnyId>) -> Out<(), UserError>
+    ensures new { IfOk result (λ _. None ≡ get any_cmp places.old key.now.node) }
+    ensures puts { IfOk result (λ _. Puts any_cmp places.old places.new
+        key.now.node (span_of key.now.loc)) }
+    ensures refused { IfRefused result
+        (λ fault.
+        option_map (λ first. DuplicateAnnotations key.now.node first (span_of key.now.loc))
+        (get any_cmp places.old key.now.node) ≡ Some fault) }
+{
+    let place = key.loc.span();
+    let key = key.node.dup(alloc)?;
+    note(places, key, place)
 }
 
 /// Notes the place of a key; refused where it was noted before.

@@ -179,7 +179,7 @@ impl Decl for TypeDecl {
     ghost names_of = { λ decl. word_of decl.name ∷ [] };
 
     fn names(&self, alloc: Global) -> Mem<Vec<Node<Text>>> {
-        let word = Text::new(alloc, self.name.node.as_ref())?;
+        let word = self.name.node.as_text().dup(alloc)?;
         let loc = self.name.loc.dup(alloc)?;
         let mut names = Vec::new(alloc);
         names.push(Node { node: word, loc })?;

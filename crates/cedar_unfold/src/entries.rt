@@ -7,7 +7,6 @@ ghost use Rattle.cedar_data.specs.Maps.{IsSortedMap};
 ghost use Rattle.cedar_unfold.specs.Following.{next_entry};
 
 use cedar_data::{Map, Text};
-use std::ops::Bound;
 
 /// The entry that follows the key in the order of the keys, or the first one. It is found without a walk.
 pub(crate) fn next_entry<'a, V>(
@@ -18,12 +17,9 @@ pub(crate) fn next_entry<'a, V>(
         ≡ next_entry (option_copied after.entry) map.now }
     ensures ordered { IsSortedMap (slice_cmp nat_cmp) map.now }
 {
-    let start = match after {
-        None => Bound::Unbounded,
-        Some(key) => Bound::Excluded(key),
-    };
-    match map.as_map().range((start, Bound::Unbounded)).next() {
-        Some((key, value)) => Some((key, value.get())),
-        None => None,
+    let mut entries = map.iter();
+    match after {
+        Some(key) => map.after(key),
+        None => entries.next(),
     }
 }

@@ -24,8 +24,8 @@ close_any_edges-requires g c =
       earlier = Closing-earlier g.met.K.Ord.total c.args.nodes keys c.requires.keys c.in-Some.key c.in-Some.node c.loop-key.invariant c.in-Some.ensures.steps;
     }
 
-pub map_of_sorted-requires : goal.map_of_sorted-requires
-map_of_sorted-requires g c = Closing-sorted g.met.K.Ord.total c.args.nodes c.args.keys.now c.requires.keys c.into_entries-key-items.ensures.ordered c.loop-key.invariant c.in-None.ensures.steps.0
+pub from_sorted-requires : goal.from_sorted-requires
+from_sorted-requires g c = Closing-sorted g.met.K.Ord.total c.args.nodes c.args.keys.now c.requires.keys c.into_entries-key-items.ensures.ordered c.loop-key.invariant c.in-None.ensures.steps.0
 
 pub loop-key-preserved : goal.loop-key-preserved
 loop-key-preserved g c =

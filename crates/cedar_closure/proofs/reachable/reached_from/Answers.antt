@@ -28,7 +28,7 @@ returns c =
     let found = c.loop-next.found.items in
     let inside : All (λ j. j < length c.args.rows.now) found = subst (λ n. All (λ j. j < n) found) c.loop-next.invariant.as_long c.loop-next.invariant.told.within in
     record {
-      reached = λ j. Contains-moved j c.sort_unstable_by.ensures.permutation (Searched-end c.loop-next.invariant (omega arith) j);
-      within = All-permutation (λ j. j < length c.args.rows.now) found c.sort_unstable_by.new.self.items c.sort_unstable_by.ensures.permutation inside;
+      reached = λ j. Contains-moved j c.sort_unstable.ensures.permutation (Searched-end c.loop-next.invariant (omega arith) j);
+      within = All-permutation (λ j. j < length c.args.rows.now) found c.sort_unstable.new.self.items c.sort_unstable.ensures.permutation inside;
       latest = c.loop-next.invariant.told.latest;
     }

@@ -4,9 +4,12 @@ use Rattle.std.proofs.lemmas.Iterator.Adapters.{YieldsList-from_vec}
 use Rattle.std.proofs.lemmas.Iterator.Consumers.{YieldsList-end}
 use Rattle.std.proofs.lemmas.List.{map-id}
 use Rattle.std.specs.BTreeMap.{is_at}
-use Rattle.cedar_data.proofs.Build.{Builds-next}
+use Rattle.cedar_data.proofs.Build.{Builds-start, Builds-next}
 use Rattle.cedar_data.specs.Maps.{map_of, last_value}
 use Rattle.cedar_data.proofs.map.Map.from_pairs.Goals as goal
+
+pub loop-key-init : goal.loop-key-init
+loop-key-init g c = Builds-start g.K.Ord.cmp _ _ refl c.new-map.ensures
 
 pub loop-key-preserved : goal.loop-key-preserved
 loop-key-preserved g c =

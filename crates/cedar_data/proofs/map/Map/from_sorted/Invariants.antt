@@ -1,10 +1,7 @@
 -- SPDX-License-Identifier: Apache-2.0
-use Rattle.std.proofs.Common.{◌≡◌, ◌++◌, length}
+use Rattle.std.proofs.Common.{◌≡◌}
 use Rattle.cedar_data.proofs.map.Map.from_sorted.Given as goal
 
--- the map has the last entries
+-- what is boxed is the entries so far
 abbrev pub invariant-loop-key : goal.invariant-loop-key
-invariant-loop-key g l = l.entries.items ++ l.map ≡ l.fn.entries.items
-
-abbrev pub decreases-loop-key : goal.decreases-loop-key
-decreases-loop-key g l = length l.entries.items
+invariant-loop-key g l = l.boxed.items ≡ l.yielded

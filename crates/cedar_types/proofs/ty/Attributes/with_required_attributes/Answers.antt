@@ -1,15 +1,19 @@
 -- SPDX-License-Identifier: Apache-2.0
-use Rattle.std.proofs.Common.{[], ◌∷◌, ap, sym, ◌∙◌, rules}
+use Rattle.std.proofs.Common.{[], ◌∷◌, refl, ap, sym, ◌∙◌, rules}
 use Rattle.std.proofs.lemmas.Iterator.Adapters.{YieldsList-from_vec}
 use Rattle.std.proofs.lemmas.Iterator.Consumers.{YieldsList-end}
 use Rattle.std.proofs.lemmas.List.{map-id}
-use Rattle.std.specs.Cmp.Lexicographic.{nat_list_cmp_total}
-use Rattle.cedar_data.proofs.Build.{Builds-next}
+use Rattle.std.specs.Cmp.Lexicographic.{slice_cmp, nat_list_cmp_total}
+use Rattle.std.specs.Ordering.{nat_cmp}
+use Rattle.cedar_data.proofs.Build.{Builds-start, Builds-next}
 use Rattle.cedar_data.proofs.Rebuild.{map_values-append}
 use Rattle.cedar_data.specs.Maps.{get_text, is_text, last_value, map_values}
 use Rattle.cedar_types.proofs.Entries.{entries-attributes_of}
 use Rattle.cedar_types.specs.Types.{required}
 use Rattle.cedar_types.proofs.ty.Attributes.with_required_attributes.Goals as goal
+
+pub loop-name-init : goal.loop-name-init
+loop-name-init c = Builds-start (slice_cmp nat_cmp) _ _ refl c.new-map.ensures
 
 pub loop-name-preserved : goal.loop-name-preserved
 loop-name-preserved c =

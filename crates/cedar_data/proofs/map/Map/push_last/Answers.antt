@@ -1,7 +1,0 @@
--- SPDX-License-Identifier: Apache-2.0
-use Rattle.cedar_data.proofs.Rebuild.{insert_entry-last}
-use Rattle.cedar_data.proofs.map.Map.push_last.Goals as goal
-
-pub returns-clause-ok : goal.returns-clause-ok
-returns-clause-ok g c =
-    rw (insert_entry-last g.met.K.Ord.total c.args.self.now c.args.key c.args.value c.requires) at c.put.ensures.ok

@@ -1,8 +1,0 @@
--- SPDX-License-Identifier: Apache-2.0
-use Rattle.cedar_data.proofs.Rebuild.{sorted_previous}
-use Rattle.cedar_data.proofs.map.MapDup.dup.Goals as goal
-
-pub push_first-requires : goal.push_first-requires
-push_first-requires g c =
-    sorted_previous g.K.Ord.cmp c.next_back.new.self c.loop-key.copies c.in-Some.value.now
-    c.loop-key.invariant c.in-Some.ensures.steps c.in_ok-key.ensures c.iter-rest.ensures.ordered

@@ -1,9 +1,0 @@
--- SPDX-License-Identifier: Apache-2.0
-use Rattle.std.proofs.Common.{refl}
-use Rattle.cedar_data.proofs.Rebuild.{sorted_previous_key}
-use Rattle.cedar_data.proofs.set.Set.from_sorted.Goals as goal
-
-pub push_first-requires : goal.push_first-requires
-push_first-requires g c =
-    sorted_previous_key g.K.Ord.cmp c.pop.new.self.items c.loop-key.set
-    c.loop-key.invariant c.in-Some.ensures.items refl c.requires
