@@ -66,7 +66,8 @@ fn run_of<K: Ord, V>(runs: &[Run<K, V>], key: &K) -> usize
 /// Puts an entry into the run where it belongs, and splits that run where it is too long.
 fn put_among<K: Ord + Drop, V: Drop>(runs: &mut Vec<Run<K, V>>, key: K, value: V) -> Mem<Option<V>>
     requires { AreRuns K.cmp runs.old.items }
-    ensures ok { OnOk result (all_runs runs.new.items ≡ insert_entry K.cmp (all_runs runs.old.items) key value) }
+    ensures ok { OnOk result (all_runs runs.new.items
+        ≡ insert_entry K.cmp (all_runs runs.old.items) key value) }
     ensures old { IfOk result (λ old. old ≡ get K.cmp (all_runs runs.old.items) key) }
     ensures err { OnErr result (all_runs runs.new.items ≡ all_runs runs.old.items) }
     ensures runs { AreRuns K.cmp runs.new.items }
@@ -85,7 +86,8 @@ fn put_among<K: Ord + Drop, V: Drop>(runs: &mut Vec<Run<K, V>>, key: K, value: V
 /// order fill each run then. None where there is no memory for it.
 fn surplus<K: Ord + Drop, V: Drop>(run: &mut Run<K, V>, is_last: bool) -> Option<Run<K, V>>
     ensures whole { IfNone result (run.new ≡ run.old) }
-    ensures parts { IfSome result (λ more. (run.old ≡ run.new ++ more) × (run.new ≢ []) × (more ≢ [])) }
+    ensures parts { IfSome result
+        (λ more. (run.old ≡ run.new ++ more) × (run.new ≢ []) × (more ≢ [])) }
 {
     let count = run.len();
     if count <= MOST {
@@ -98,7 +100,8 @@ fn surplus<K: Ord + Drop, V: Drop>(run: &mut Run<K, V>, is_last: bool) -> Option
 /// The run as two runs, where it is too long and there is memory for it. What is left is empty then.
 fn parted<K: Ord + Drop, V: Drop>(alloc: Global, run: &mut Run<K, V>) -> Option<Vec<Run<K, V>>>
     ensures whole { IfNone result (run.new ≡ run.old) }
-    ensures parts { IfSome result (λ runs. AreRuns K.cmp runs.items × (all_runs runs.items ≡ run.old)) }
+    ensures parts { IfSome result
+        (λ runs. AreRuns K.cmp runs.items × (all_runs runs.items ≡ run.old)) }
 {
     if run.len() <= MOST {
         return None;
@@ -119,7 +122,8 @@ fn put<K: Ord + Drop, V: Drop>(
     value: V,
 ) -> Mem<Option<V>>
     requires { IsOrderedHeld K.cmp held.old }
-    ensures ok { OnOk result (entries_held held.new ≡ insert_entry K.cmp (entries_held held.old) key value) }
+    ensures ok { OnOk result (entries_held held.new
+        ≡ insert_entry K.cmp (entries_held held.old) key value) }
     ensures old { IfOk result (λ old. old ≡ get K.cmp (entries_held held.old) key) }
     ensures err { OnErr result (entries_held held.new ≡ entries_held held.old) }
     ensures ordered { IsOrderedHeld K.cmp held.new }
