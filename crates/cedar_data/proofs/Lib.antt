@@ -15,3 +15,4 @@ pub mod RunOrder
 pub mod RunEdits
 pub mod SetKeys
 pub mod Puts
+pub mod RunAppend

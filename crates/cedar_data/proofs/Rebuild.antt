@@ -15,7 +15,7 @@ use Rattle.std.proofs.lemmas.Map.Keys.{sorted_head, sorted_tail}
 use Rattle.cedar_data.specs.Maps.{IsSortedMap, map_values}
 
 -- what holds of each element holds of the one after the first ones
-at_next : {X : Type 0} (P : X → Type 0) (xs ys : List X) (x : X) → AllByRecursion P (xs ++ x ∷ ys) → P x
+pub at_next : {X : Type 0} (P : X → Type 0) (xs ys : List X) (x : X) → AllByRecursion P (xs ++ x ∷ ys) → P x
 at_next P [] ys x all = all.0
 at_next P (_ ∷ xs) ys x all = at_next P xs ys x all.1
 
@@ -65,7 +65,7 @@ module _ {K : Type 0} where
       subst (λ k. IsStrictlySortedBy cmp (done ++ k ∷ [])) (sym same) (sorted_front cmp done next rest (subst (λ ks. IsStrictlySortedBy cmp ks) all sorted))
 
 module _ {K V : Type 0} where
-  keys_of-append : (xs ys : List (K × V)) → keys_of (xs ++ ys) ≡ keys_of xs ++ keys_of ys
+  pub keys_of-append : (xs ys : List (K × V)) → keys_of (xs ++ ys) ≡ keys_of xs ++ keys_of ys
   keys_of-append [] ys = refl
   keys_of-append (x ∷ xs) ys = ap (λ ks. x.0 ∷ ks) (keys_of-append xs ys)
 

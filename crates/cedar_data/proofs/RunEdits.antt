@@ -22,11 +22,11 @@ use Rattle.cedar_data.specs.Runs.{all_runs, first_after, AreRuns, IsRunOf}
 use Rattle.cedar_data.specs.declared.entries.Held.{Held}
 use Rattle.cedar_data.specs.declared.entries.Held.TheVariants.{One, Several}
 
-append-some : {A : Type 0} (xs : List A) (y : A) (ys : List A) → xs ++ y ∷ ys ≢ []
+pub append-some : {A : Type 0} (xs : List A) (y : A) (ys : List A) → xs ++ y ∷ ys ≢ []
 append-some [] y ys h = absurd cc
 append-some (x ∷ xs) y ys h = absurd cc
 
-set-some : {A : Type 0} (xs : List A) (i : ℕ) (y : A) → i < length xs → set xs i y ≢ []
+pub set-some : {A : Type 0} (xs : List A) (i : ℕ) (y : A) → i < length xs → set xs i y ≢ []
 set-some xs i y l h = append-some (take i xs) y (drop (suc i) xs) (sym (set_split xs i y l) ∙ h)
 
 module _ {K V : Type 0} where
@@ -102,7 +102,7 @@ module _ {K V : Type 0} where
         by false r h = r h
 
   module _ {cmp : K → K → Ordering} (total : IsTotalOrder cmp) where
-    turned_less : (key : K) (xs : List (K × V)) → AllPass (λ e. cmp e.0 key ≡ Less) xs → AllPass (λ e. cmp key e.0 ≡ Greater) xs
+    pub turned_less : (key : K) (xs : List (K × V)) → AllPass (λ e. cmp e.0 key ≡ Less) xs → AllPass (λ e. cmp key e.0 ≡ Greater) xs
     turned_less key xs p = AllPass-map (λ e l. total.antisymm key e.0 ∙ ap ordering_reverse l) xs p
 
     turned_greater : (key : K) (xs : List (K × V)) → AllPass (λ e. cmp e.0 key ≡ Greater) xs → AllPass (λ e. cmp key e.0 ≡ Less) xs

@@ -23,7 +23,7 @@ pub split_at : {A : Type 0} (xs : List A) (i : ℕ) (d : A) → i < length xs �
 split_at xs i d l =
     sym (set-get_or xs i d) ∙ set_split xs i (get_or xs i d) l ∙ ap (λ n. take i xs ++ get_or xs i d ∷ drop n xs) (sym (add-one i))
 
-not_none : {A : Type 0} (xs : List A) → xs ≢ [] → 0 < length xs
+pub not_none : {A : Type 0} (xs : List A) → xs ≢ [] → 0 < length xs
 not_none [] some = absurd (some refl)
 not_none (x ∷ xs) some = omega arith
 

@@ -1,5 +1,5 @@
 // SPDX-License-Identifier: Apache-2.0
-ghost use Rattle.std.specs.Prelude.{◌≡◌, ◌≢◌, [], ◌∷◌, ◌++◌, ◌<◌, length, option_map, IfOk, IfSome, IfNone, OnOk, OnErr};
+ghost use Rattle.std.specs.Prelude.{◌≡◌, ◌≢◌, [], ◌∷◌, ◌++◌, ◌<◌, true, length, option_map, IfOk, IfSome, IfNone, OnOk, OnErr};
 ghost use Rattle.std.specs.Option.{option_copied};
 ghost use Rattle.std.specs.BTreeMap.{insert_entry};
 ghost use Rattle.std.specs.List.Sorted.{IsStrictlySortedBy};
@@ -114,8 +114,8 @@ fn parted<K: Ord + Drop, V: Drop>(alloc: Global, run: &mut Run<K, V>) -> Option<
     Some(runs)
 }
 
-/// Puts an entry where it belongs.
-fn put<K: Ord + Drop, V: Drop>(
+/// Searches for where an entry belongs, and puts it there.
+fn put_found<K: Ord + Drop, V: Drop>(
     alloc: Global,
     held: &mut Held<K, V>,
     key: K,
@@ -141,7 +141,33 @@ fn put<K: Ord + Drop, V: Drop>(
     Ok(old)
 }
 
-/// Puts an entry after all others. Where one run has room for it, nothing is searched for.
+/// Puts an entry after all others: into the last run, or into one of its own where that is full.
+fn push_among<K: Ord + Drop, V: Drop>(
+    alloc: Global,
+    runs: &mut Vec<Run<K, V>>,
+    key: K,
+    value: V,
+) -> Mem<()>
+    requires runs { AreRuns K.cmp runs.old.items }
+    requires last { IsStrictlySortedBy K.cmp
+        (keys_of (all_runs runs.old.items) ++ key ∷ []) }
+    ensures ok { OnOk result (all_runs runs.new.items
+        ≡ all_runs runs.old.items ++ (key, value) ∷ []) }
+    ensures err { OnErr result (all_runs runs.new.items ≡ all_runs runs.old.items) }
+    ensures runs { AreRuns K.cmp runs.new.items }
+{
+    let last = runs.len().saturating_sub(1);
+    if runs[last].len() < MOST {
+        return runs[last].push(key, value);
+    }
+    // entries that come in order fill each run
+    let mut run = Run::with_room(alloc, MOST)?;
+    run.push(key, value)?;
+    runs.push(run)?;
+    Ok(())
+}
+
+/// Puts an entry after all others. Nothing is searched for, unless the one run is full.
 fn append<K: Ord + Drop, V: Drop>(alloc: Global, held: &mut Held<K, V>, key: K, value: V) -> Mem<()>
     requires held { IsOrderedHeld K.cmp held.old }
     requires last { IsStrictlySortedBy K.cmp (keys_of (entries_held held.old) ++ key ∷ []) }
@@ -150,13 +176,49 @@ fn append<K: Ord + Drop, V: Drop>(alloc: Global, held: &mut Held<K, V>, key: K, 
     ensures err { OnErr result (entries_held held.new ≡ entries_held held.old) }
     ensures ordered { IsOrderedHeld K.cmp held.new }
 {
-    if let Held::One(run) = held {
-        if run.len() < MOST {
-            return run.push(key, value);
+    match held {
+        Held::Several(runs) => return push_among(alloc, runs, key, value),
+        Held::One(run) => {
+            if run.len() < MOST {
+                return run.push(key, value);
+            }
         }
     }
-    put(alloc, held, key, value)?;
+    put_found(alloc, held, key, value)?;
     Ok(())
+}
+
+/// Whether the key is known to be greater than all others, by the last of them alone.
+fn ends_before<K: Ord, V>(held: &Held<K, V>, key: &K) -> bool
+    requires { IsOrderedHeld K.cmp held.now }
+    ensures { (result ≡ true)
+        → IsStrictlySortedBy K.cmp (keys_of (entries_held held.now) ++ key.now ∷ []) }
+{
+    match held {
+        Held::One(run) => run.ends_before(key),
+        Held::Several(runs) => runs[runs.len().saturating_sub(1)].ends_before(key),
+    }
+}
+
+/// Puts an entry where it belongs. Behind all others nothing is searched for.
+fn put<K: Ord + Drop, V: Drop>(
+    alloc: Global,
+    held: &mut Held<K, V>,
+    key: K,
+    value: V,
+) -> Mem<Option<V>>
+    requires { IsOrderedHeld K.cmp held.old }
+    ensures ok { OnOk result (entries_held held.new
+        ≡ insert_entry K.cmp (entries_held held.old) key value) }
+    ensures old { IfOk result (λ old. old ≡ get K.cmp (entries_held held.old) key) }
+    ensures err { OnErr result (entries_held held.new ≡ entries_held held.old) }
+    ensures ordered { IsOrderedHeld K.cmp held.new }
+{
+    if ends_before(held, &key) {
+        append(alloc, held, key, value)?;
+        return Ok(None);
+    }
+    put_found(alloc, held, key, value)
 }
 
 impl<K: Ord, V> Entries<K, V> {
@@ -170,6 +232,20 @@ impl<K: Ord, V> Entries<K, V> {
             count: 0,
             held: Held::One(Run::new(alloc)),
         }
+    }
+
+    /// No entries, with room for `count` of them in one run, or for as many as it holds. It fails only for want of
+    /// memory.
+    #[tactic(auto, unfolding(crate::specs::EntriesHeld::IsHeld))]
+    pub(crate) fn with_room(alloc: Global, count: usize) -> Mem<Entries<K, V>>
+        ensures { IfOk result (λ m. m ≡ []) }
+    {
+        let run = Run::with_room(alloc, count)?;
+        Ok(Entries {
+            alloc,
+            count: 0,
+            held: Held::One(run),
+        })
     }
 
     /// How many entries there are.
@@ -258,9 +334,9 @@ impl<K: Ord + Drop, V: Drop> Entries<K, V> {
                 held: Held::One(Run::of_sorted(entries)),
             });
         }
-        let mut all = Entries::new(alloc);
+        let mut all = Entries::with_room(alloc, count)?;
         for (key, value) in entries {
-            all.insert(key, value)?;
+            all.push(key, value)?;
         }
         Ok(all)
     }

@@ -7,7 +7,7 @@ ghost use Rattle.std.specs.Hash as fed;
 ghost use Rattle.std.specs.Hash.{items_Alike};
 
 use crate::dup::Dup;
-use crate::memory::Mem;
+use crate::memory::{Mem, widen};
 use std::alloc::Global;
 use std::cmp::Ordering;
 use std::hash::{Hash, Hasher};
@@ -99,6 +99,12 @@ impl<T: Drop> Items<T> {
         ensures ok { OnOk result (self.new ≡ self.old ++ item ∷ []) }
         ensures err { OnErr result (self.new ≡ self.old) }
     {
+        let room = match self.items.len() {
+            0 => 1,
+            1 => 3,
+            count => count,
+        };
+        widen(&mut self.items, room)?;
         self.items.push(item)?;
         Ok(())
     }

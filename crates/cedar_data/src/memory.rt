@@ -26,6 +26,16 @@ pub type Mem<T> = Result<T, NoMemory>;
 /// The answer of a call that may be refused, or fail for want of memory.
 pub type Out<T, E> = Result<T, Failure<E>>;
 
+/// Makes room for `room` more items where there is none for another. It fails only for want of memory.
+pub(crate) fn widen<T>(items: &mut Vec<T>, room: usize) -> Mem<()>
+    ensures { items.new.items ≡ items.old.items }
+{
+    if items.len() == items.capacity() {
+        items.reserve_exact(room)?;
+    }
+    Ok(())
+}
+
 impl fmt::Display for NoMemory {
     ghost output = { λ _. Some (codes "out of memory") };
 

@@ -1,14 +1,14 @@
 // SPDX-License-Identifier: Apache-2.0
-ghost use Rattle.std.specs.Prelude.{◌≡◌, [], ◌∷◌, ◌++◌, ◌^◌, ◌<◌, ◌≤◌, length, slice_get, take, drop, option_map, IfOk, IfErr, OnOk, OnErr};
+ghost use Rattle.std.specs.Prelude.{◌≡◌, [], ◌∷◌, ◌++◌, ◌^◌, ◌<◌, ◌≤◌, true, length, slice_get, take, drop, option_map, IfOk, IfErr, OnOk, OnErr};
 ghost use Rattle.std.specs.Option.{option_copied};
 ghost use Rattle.std.specs.BTreeMap.{insert_entry};
 ghost use Rattle.std.specs.List.Sorted.{IsStrictlySortedBy};
 ghost use Rattle.std.specs.Map.{keys_of};
 ghost use Rattle.cedar_data.specs.Maps.{get, IsSortedMap};
-ghost use Rattle.cedar_data.specs.Places.{StandsAt, BelongsAt};
+ghost use Rattle.cedar_data.specs.Places.{StandsAt, BelongsAt, EndsBefore};
 ghost use Rattle.cedar_data.specs.Runs.{first_after};
 
-use crate::memory::Mem;
+use crate::memory::{Mem, widen};
 use std::alloc::Global;
 use std::marker::Model;
 use std::mem;
@@ -37,22 +37,19 @@ impl<K: Ord, V> Model for Run<K, V> {
     ghost invariant = { λ r. IsSortedMap K.cmp r.entries.items };
 }
 
-/// Makes room for one item more. Where there is none, room is made for 1, 4, 16, or `MOST` items, or for one more.
-fn widen<T>(items: &mut Vec<T>) -> Mem<()>
-    ensures { items.new.items ≡ items.old.items }
+/// Makes room for one entry more. Where there is none, room is made for 1, 4, 16, or `MOST` entries, or for one more.
+fn make_room<T>(entries: &mut Vec<T>) -> Mem<()>
+    ensures { entries.new.items ≡ entries.old.items }
 {
-    let count = items.len();
-    if count == items.capacity() {
-        let room = match count {
-            0 => 1,
-            1..=3 => 4 - count,
-            4..=15 => 16 - count,
-            16..MOST => MOST - count,
-            _ => 1,
-        };
-        items.reserve_exact(room)?;
-    }
-    Ok(())
+    let count = entries.len();
+    let room = match count {
+        0 => 1,
+        1..=3 => 4 - count,
+        4..=15 => 16 - count,
+        16..MOST => MOST - count,
+        _ => 1,
+    };
+    widen(entries, room)
 }
 
 impl<K: Ord, V> Run<K, V> {
@@ -63,6 +60,14 @@ impl<K: Ord, V> Run<K, V> {
         Run {
             entries: Vec::new(alloc),
         }
+    }
+
+    /// The empty run, with room for `count` entries, or for `MOST` where that is less.
+    pub(crate) fn with_room(alloc: Global, count: usize) -> Mem<Run<K, V>>
+        ensures { IfOk result (λ run. run ≡ []) }
+    {
+        let entries = Vec::with_capacity(alloc, count.min(MOST))?;
+        Ok(Run { entries })
     }
 
     /// The run of entries that are in order.
@@ -96,6 +101,16 @@ impl<K: Ord, V> Run<K, V> {
     {
         let Run { entries } = self;
         entries
+    }
+
+    /// Whether there is a last entry, and its key is less than this one.
+    pub(crate) fn ends_before(&self, key: &K) -> bool
+        ensures { (result ≡ true) → EndsBefore K.cmp self.now key.now }
+    {
+        match self.entries.as_slice().last() {
+            Some(entry) => entry.0.cmp(key).is_lt(),
+            None => false,
+        }
     }
 
     /// Where the key stands, or else where it would be put.
@@ -151,7 +166,7 @@ impl<K: Ord + Drop, V: Drop> Run<K, V> {
         match self.place(&key) {
             Ok(at) => Ok(Some(mem::replace(&mut self.entries[at].1, value))),
             Err(at) => {
-                widen(&mut self.entries)?;
+                make_room(&mut self.entries)?;
                 self.entries.insert(at, (key, value))?;
                 Ok(None)
             }
@@ -164,7 +179,7 @@ impl<K: Ord + Drop, V: Drop> Run<K, V> {
         ensures ok { OnOk result (self.new ≡ self.old ++ (key, value) ∷ []) }
         ensures err { OnErr result (self.new ≡ self.old) }
     {
-        widen(&mut self.entries)?;
+        make_room(&mut self.entries)?;
         self.entries.push((key, value))?;
         Ok(())
     }

@@ -29,7 +29,6 @@ use Rattle.std_collections.specs.Map.{keys_of, values_of}
 use Rattle.std_collections.specs.Layout.Former.{entry, on_value, entries_puts, values_listed, keys_on_values, entries_recoded}
 use Rattle.cedar_data.specs.EntriesHeld.{entries_held, IsOrderedHeld, IsHeld}
 use Rattle.cedar_data.specs.Firsts.{AllPass}
-use Rattle.cedar_data.specs.Maps.{IsSortedMap}
 use Rattle.cedar_data.specs.Runs.{all_runs, AreRuns}
 use Rattle.cedar_data.specs.declared.entries.Held.{Held}
 use Rattle.cedar_data.specs.declared.entries.Held.TheVariants.{One, Several}

@@ -1,6 +1,6 @@
 -- SPDX-License-Identifier: Apache-2.0
 -- `Run` holds its values as a list of entries does.
-use Rattle.std.specs.Prelude.{List, [], ◌∷◌, map}
+use Rattle.std.specs.Prelude.{List, [], ◌∷◌}
 use mathlib.Core.Path.{◌≡◌, refl, sym, subst}
 use mathlib.Core.Former.{Former, this, list, via, children}
 use denote.RattleType.{RattleType}

@@ -1,5 +1,5 @@
 -- SPDX-License-Identifier: Apache-2.0
-use Rattle.std.proofs.Common.{◌≡◌, Some, get_or, ap, sym, ◌∙◌}
+use Rattle.std.proofs.Common.{Some, get_or, ap, sym, ◌∙◌}
 use Rattle.cedar_data.proofs.Places.{StandsAt-get, BelongsAt-get}
 use Rattle.cedar_data.proofs.run.Run.get.Goals as goal
 

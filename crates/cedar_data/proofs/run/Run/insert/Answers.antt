@@ -25,7 +25,7 @@ invariant_of-self g c =
 
 pub returns-in_ok-insert-in-Err-clause-ok : goal.returns-in_ok-insert-in-Err-clause-ok
 returns-in_ok-insert-in-Err-clause-ok g c =
-    c.in_ok-insert-in-Err.ensures.items ∙ ap (λ es. insert es c.in-Err.at (c.args.key, c.args.value)) (c.widen.ensures ∙ c.self.view_is)
+    c.in_ok-insert-in-Err.ensures.items ∙ ap (λ es. insert es c.in-Err.at (c.args.key, c.args.value)) (c.make_room.ensures ∙ c.self.view_is)
     ∙ sym (BelongsAt-insert g.met.K.Ord.total c.args.key c.in-Err.ensures.missing c.args.value)
 
 pub returns-in_ok-insert-in-Err-clause-old : goal.returns-in_ok-insert-in-Err-clause-old
