@@ -218,6 +218,22 @@ fn compare_components(left: &InternalName, right: &InternalName) -> Ordering
     left.components().cmp(right.components())
 }
 
+/// The order of names, of which one may have a namespace. Namespaces of one length decide before the basenames.
+fn compare_qualified(left: &InternalName, right: &InternalName) -> Ordering
+    ensures { result ≡ words_cmp (components left.now) (components right.now) }
+{
+    let outer = left.namespace.as_slice();
+    let other = right.namespace.as_slice();
+    if outer.len() != other.len() {
+        return compare_components(left, right);
+    }
+    match outer.cmp(other) {
+        Ordering::Equal => left.basename.cmp(&right.basename),
+        Ordering::Less => Ordering::Less,
+        Ordering::Greater => Ordering::Greater,
+    }
+}
+
 /// The order of names. Where neither has a namespace, it is that of the basenames.
 fn compare_names(left: &InternalName, right: &InternalName) -> Ordering
     ensures { result ≡ words_cmp (components left.now) (components right.now) }
@@ -225,7 +241,7 @@ fn compare_names(left: &InternalName, right: &InternalName) -> Ordering
     if left.is_unqualified() && right.is_unqualified() {
         left.basename.cmp(&right.basename)
     } else {
-        compare_components(left, right)
+        compare_qualified(left, right)
     }
 }
 
