@@ -114,7 +114,7 @@ fn close_nodes<K: TcKey, V: TcNode<K>>(
     ensures refused { IfRefused result (λ error. IsTrue enforce_dag ×
         ((vertex : K) × (error ≡ HasCycle vertex) × IsLeastOnCycle K.cmp V.edges nodes vertex)) }
 {
-    let mut closed = Vec::new(alloc);
+    let mut closed = Vec::with_capacity(alloc, nodes.len())?;
     for (key, mut node) in nodes.into_entries() {
         let returns = close_any_edges(alloc, keys, rows, marks, &key, &mut node)?;
         if returns && enforce_dag {

@@ -3,6 +3,7 @@ ghost use Rattle.std.specs.Prelude.{◌≡◌, ◌∷◌, ◌++◌, [], All, IfO
 ghost use Rattle.std.specs.List.{filter_map};
 ghost use Rattle.std.specs.List.Sorted.{IsStrictlySortedBy};
 ghost use Rattle.std.specs.Map.{keys_of};
+ghost use Rattle.cedar_data.specs.Maps.{IsSortedMap};
 ghost use Rattle.cedar_data.specs.Sets.{Adds};
 ghost use Rattle.cedar_closure.specs.Places.{PutsInOrder, AddsBeside, NamesBeside, AreKeysOf, place, row_at, rows_at};
 
@@ -18,6 +19,9 @@ pub(crate) fn keys_of_nodes<K: TcKey, V: TcNode<K>>(alloc: Global, nodes: &Map<K
 {
     let others = other_targets(alloc, nodes)?;
     let mut keys = copies_of_keys(alloc, nodes)?;
+    if others.is_empty() {
+        return Ok(keys);
+    }
     push_copies(alloc, &others, &mut keys)?;
     in_order(alloc, keys)
 }
@@ -82,9 +86,10 @@ fn add_key<K: TcKey>(alloc: Global, set: &mut Set<K>, key: &K) -> Mem<()>
 
 /// Copies of the keys of the nodes, in their order.
 fn copies_of_keys<K: TcKey, V: TcNode<K>>(alloc: Global, nodes: &Map<K, V>) -> Mem<Vec<K>>
-    ensures { IfOk result (λ keys. keys.items ≡ keys_of nodes.now) }
+    ensures keys { IfOk result (λ keys. keys.items ≡ keys_of nodes.now) }
+    ensures ordered { IsSortedMap K.cmp nodes.now }
 {
-    let mut keys = Vec::new(alloc);
+    let mut keys = Vec::with_capacity(alloc, nodes.len())?;
     for (key, _) in nodes.iter() {
         let copy = key.dup(alloc)?;
         keys.push(copy)?;
@@ -107,8 +112,8 @@ fn push_copies<K: TcKey>(alloc: Global, set: &Set<K>, keys: &mut Vec<K>) -> Mem<
 fn in_order<K: Ord + Drop>(alloc: Global, keys: Vec<K>) -> Mem<Vec<K>>
     ensures { IfOk result (λ sorted. PutsInOrder K.cmp keys.items sorted.items) }
 {
+    let mut sorted = Vec::with_capacity(alloc, keys.len())?;
     let set: BTreeSet<K> = BTreeSet::from_iter(alloc, keys)?;
-    let mut sorted = Vec::new(alloc);
     for key in set {
         sorted.push(key)?;
     }
@@ -135,7 +140,7 @@ pub(crate) fn rows_of_nodes<K: TcKey, V: TcNode<K>>(
     requires { IsStrictlySortedBy K.cmp keys.now }
     ensures { IfOk result (λ rows. rows.items ≡ rows_at K.cmp V.edges nodes.now keys.now) }
 {
-    let mut rows = Vec::new(alloc);
+    let mut rows = Vec::with_capacity(alloc, keys.len())?;
     for key in keys {
         let row = row_at_key(alloc, nodes, keys, key)?;
         rows.push(row)?;

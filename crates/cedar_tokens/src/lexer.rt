@@ -35,7 +35,8 @@ pub fn tokens(alloc: Global, text: &str) -> Out<Vec<Token>, NoToken>
         → MatchResult result (λ _. ⊥) (λ e. (e ≡ OutOfMemory)
         ⊎ (e ≡ RefusedWith (record { location = place }))) }
 {
-    let mut found = Vec::new(alloc);
+    // a token and what stands before it are seldom shorter than four bytes
+    let mut found = Vec::with_capacity(alloc, text.len() / 4)?;
     let mut rest = text;
     let mut at = 0;
     'pieces: loop {

@@ -8,7 +8,7 @@ use Rattle.cedar_closure.proofs.Closings.{Closing-start, Closing-ascends, Closin
 use Rattle.cedar_closure.proofs.closure.close_nodes.Goals as goal
 
 pub loop-key-init : goal.loop-key-init
-loop-key-init g c = Closing-start g.met.K.Ord.total c.args.nodes c.args.keys.now c.args.enforce_dag c.into_iter-key-iterator.result c.args.marks.now c.new-closed.result.items (c.into_iter-key-iterator.ensures.into_iter_gives ∙ c.into_entries-key-items.ensures.rest) c.new-closed.ensures.items c.requires.no_marks
+loop-key-init g c = Closing-start g.met.K.Ord.total c.args.nodes c.args.keys.now c.args.enforce_dag c.into_iter-key-iterator.result c.args.marks.now c.in_ok-closed.closed.items (c.into_iter-key-iterator.ensures.into_iter_gives ∙ c.into_entries-key-items.ensures.rest) c.in_ok-closed.ensures.items c.requires.no_marks
 
 pub close_any_edges-requires : goal.close_any_edges-requires
 close_any_edges-requires g c =
