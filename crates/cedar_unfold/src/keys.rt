@@ -15,7 +15,7 @@ pub(crate) fn copied_keys<T>(alloc: Global, defs: &Map<InternalName, T>) -> Mem<
     ensures keys { IfOk result (λ keys. keys.items ≡ keys_of defs.now) }
     ensures sorted { IsStrictlySortedBy internal_cmp (keys_of defs.now) }
 {
-    let mut keys = Vec::new(alloc);
+    let mut keys = Vec::with_capacity(alloc, defs.len())?;
     for (key, _) in defs.iter() {
         keys.push(key.dup(alloc)?)?;
     }

@@ -43,7 +43,7 @@ pub(crate) fn survey_definitions<T: TypeNode, L: Ledger>(
         (has_word (extension_words extensions.now)) e.1) (by_name T.written defs.now)))) }
     ensures counts { steps.new ≤ steps.old + all_nodes (by_name T.written defs.now) }
 {
-    let mut rows = Vec::new(alloc);
+    let mut rows = Vec::with_capacity(alloc, defs.len())?;
     for (_, ty) in defs.iter() {
         let mut row = Items::new(alloc);
         survey(alloc, ty, keys, extensions, &mut row, fault, steps)?;
