@@ -24,6 +24,12 @@ module _ {A : Type 0} where
 
 pub ruleset firsts = (first_before, first_behind, none_of_both)
 
+-- what is refused with the first fault of a list is refused with the first of it and others behind it
+pub refused_before : {A T F : Type 0} (told : F → A) (xs ys : List A) (result : Result T (Failure F)) → IfRefused result (λ e. IsFirst xs (told e)) → IfRefused result (λ e. IsFirst (xs ++ ys) (told e))
+refused_before told xs ys (Ok value) refused = refused
+refused_before told xs ys (Err (Refused e)) refused = first_before xs ys (told e) refused
+refused_before told xs ys (Err NoMemory) refused = refused
+
 -- of the items `whole`, those before `left` have no faults
 pub record Faultless {E R : Type 0} (faults : E → List R) (whole left : List E) : Type 0 where
   pub is : flat_map faults whole ≡ flat_map faults left

@@ -105,11 +105,11 @@ fn action_made<N: RefName + Ord + Drop>(
 fn action_id(
     alloc: Global,
     namespace: Option<&InternalName>,
-    id: &Text,
+    id: Text,
     action: &ActionType<RawName>,
 ) -> Out<EntityUID, SchemaError>
     ensures key { IfOk result (λ uid. action_key uid
-        ≡ action_at (option_copied namespace.entry) id.now action.now.loc) }
+        ≡ action_at (option_copied namespace.entry) id action.now.loc) }
     ensures ok { IfOk result
         (λ _. reserved_in (option_copied namespace.entry)
         (components (action_type_in (option_copied namespace.entry))) ≡ []) }
@@ -118,7 +118,6 @@ fn action_id(
         (components (action_type_in (option_copied namespace.entry)))) (told e)) }
 {
     let loc = action.loc.dup(alloc)?;
-    let id = id.dup(alloc)?;
     action_at(alloc, namespace, id, loc)
 }
 
@@ -127,16 +126,16 @@ fn action_id(
 fn action_head(
     alloc: Global,
     namespace: Option<&InternalName>,
-    id: &Text,
+    id: Text,
     action: &ActionType<RawName>,
 ) -> Out<(EntityUID, Attributes), SchemaError>
     ensures key { IfOk result (λ made. action_key made.0
-        ≡ action_at (option_copied namespace.entry) id.now action.now.loc) }
+        ≡ action_at (option_copied namespace.entry) id action.now.loc) }
     ensures types { IfOk result (λ made. made.1 ≡ types_in action.now.attributes) }
     ensures ok { IfOk result
-        (λ _. action_faults (option_copied namespace.entry) (id.now, action.now) ≡ []) }
+        (λ _. action_faults (option_copied namespace.entry) (id, action.now) ≡ []) }
     ensures refused { IfRefused result
-        (λ e. IsFirst (action_faults (option_copied namespace.entry) (id.now, action.now))
+        (λ e. IsFirst (action_faults (option_copied namespace.entry) (id, action.now))
         (told e)) }
 {
     let uid = action_id(alloc, namespace, id, action)?;
@@ -150,14 +149,13 @@ fn fragment_of(
     alloc: Global,
     namespace: Option<&InternalName>,
     attribute_types: Attributes,
-    action: &ActionType<RawName>,
+    action: ActionType<RawName>,
 ) -> Mem<ActionFragment<ConditionalName, ConditionalName>>
     ensures { IfOk result (λ made. made ≡ action_made conditional_cmp attribute_types
         (sure (through_action over_raw over_conditional
-        (qualifying (option_copied namespace.entry)) action.now))) }
+        (qualifying (option_copied namespace.entry)) action))) }
 {
-    let copy = action.dup(alloc)?;
-    let action = copy.conditionally_qualify_type_references(alloc, namespace)?;
+    let action = action.conditionally_qualify_type_references(alloc, namespace)?;
     action_made(alloc, attribute_types, action)
 }
 
@@ -168,13 +166,13 @@ fn put_action(
     made: &mut Map<EntityUID, ActionFragment<ConditionalName, ConditionalName>>,
     uid: EntityUID,
     attribute_types: Attributes,
-    action: &ActionType<RawName>,
+    action: ActionType<RawName>,
 ) -> Mem<()>
     ensures { OnOk result (with_keys action_key made.new
         ≡ insert_entry action_key_cmp (with_keys action_key made.old) (action_key uid)
         (action_made conditional_cmp attribute_types
         (sure (through_action over_raw over_conditional
-        (qualifying (option_copied namespace.entry)) action.now)))) }
+        (qualifying (option_copied namespace.entry)) action)))) }
 {
     let fragment = fragment_of(alloc, namespace, attribute_types, action)?;
     made.put(uid, fragment)?;
@@ -187,20 +185,18 @@ fn declare_action(
     alloc: Global,
     namespace: Option<&InternalName>,
     made: &mut Map<EntityUID, ActionFragment<ConditionalName, ConditionalName>>,
-    id: &Text,
-    action: &ActionType<RawName>,
+    id: Text,
+    action: ActionType<RawName>,
 ) -> Out<(), SchemaError>
     ensures puts { OnOk result (with_keys action_key made.new
         ≡ insert_entry action_key_cmp (with_keys action_key made.old)
-        (action_in (option_copied namespace.entry) (id.now, action.now)).0
-        (action_in (option_copied namespace.entry) (id.now, action.now)).1) }
-    ensures ok { OnOk result (action_faults (option_copied namespace.entry) (id.now, action.now)
-        ≡ []) }
+        (action_in (option_copied namespace.entry) (id, action)).0
+        (action_in (option_copied namespace.entry) (id, action)).1) }
+    ensures ok { OnOk result (action_faults (option_copied namespace.entry) (id, action) ≡ []) }
     ensures refused { IfRefused result
-        (λ e. IsFirst (action_faults (option_copied namespace.entry) (id.now, action.now))
-        (told e)) }
+        (λ e. IsFirst (action_faults (option_copied namespace.entry) (id, action)) (told e)) }
 {
-    let (uid, types) = action_head(alloc, namespace, id, action)?;
+    let (uid, types) = action_head(alloc, namespace, id, &action)?;
     put_action(alloc, namespace, made, uid, types, action)?;
     Ok(())
 }
@@ -210,18 +206,18 @@ fn declare_action(
 pub(crate) fn actions_in(
     alloc: Global,
     namespace: Option<&InternalName>,
-    actions: &Map<Text, ActionType<RawName>>,
+    actions: Map<Text, ActionType<RawName>>,
 ) -> Out<ActionsDef<ConditionalName, ConditionalName>, SchemaError>
     ensures made { IfOk result (λ made. with_keys action_key made.actions
-        ≡ map (action_in (option_copied namespace.entry)) actions.now) }
+        ≡ map (action_in (option_copied namespace.entry)) actions) }
     ensures ok { IfOk result
-        (λ _. flat_map (action_faults (option_copied namespace.entry)) actions.now ≡ []) }
+        (λ _. flat_map (action_faults (option_copied namespace.entry)) actions ≡ []) }
     ensures refused { IfRefused result
-        (λ e. IsFirst (flat_map (action_faults (option_copied namespace.entry)) actions.now)
+        (λ e. IsFirst (flat_map (action_faults (option_copied namespace.entry)) actions)
         (told e)) }
 {
     let mut made = Map::new(alloc);
-    for (id, action) in actions.iter() {
+    for (id, action) in actions.into_entries() {
         declare_action(alloc, namespace, &mut made, id, action)?;
     }
     Ok(ActionsDef { actions: made })

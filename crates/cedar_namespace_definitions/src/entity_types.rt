@@ -5,11 +5,12 @@ ghost use Rattle.std.specs.List.{flat_map};
 ghost use Rattle.std.specs.Option.{option_copied};
 ghost use Rattle.cedar_data.specs.Answers.{IfRefused};
 ghost use Rattle.cedar_data.specs.Firsts.{IsFirst};
+ghost use Rattle.cedar_names.specs.Components.{components};
 ghost use Rattle.cedar_names.specs.Names.{internal_cmp};
 ghost use Rattle.cedar_schema_error.specs.Told.{told};
-ghost use Rattle.cedar_namespace_definitions.specs.Definitions.{AreEntityTypes, entity_in, entity_made, entity_name, entity_place, entry_of, kind_made, put_entries, standard_made, with_keys};
+ghost use Rattle.cedar_namespace_definitions.specs.Definitions.{AreEntityTypes, entity_in, entity_made, entity_place, entry_of, kind_made, put_entries, standard_made, with_keys};
 ghost use Rattle.cedar_namespace_definitions.specs.Faults.{entity_faults};
-ghost use Rattle.cedar_namespace_definitions.specs.NamesIn.{entity_key};
+ghost use Rattle.cedar_namespace_definitions.specs.NamesIn.{entity_key, name_at, reserved_in};
 
 use crate::names::entity_type_at;
 use crate::sets::set_of;
@@ -56,39 +57,17 @@ fn kind_made<N: Ord + Drop>(alloc: Global, kind: EntityTypeKind<N>) -> Mem<Entit
 fn entity_made(
     alloc: Global,
     namespace: Option<&InternalName>,
-    entity_type: &EntityType<RawName>,
+    entity_type: EntityType<RawName>,
 ) -> Mem<EntityTypeFragment<ConditionalName>>
     ensures { IfOk result (λ made. made
-        ≡ entity_made (option_copied namespace.entry) entity_type.now) }
+        ≡ entity_made (option_copied namespace.entry) entity_type) }
 {
-    let copy = entity_type.dup(alloc)?;
     let EntityType {
         kind,
         annotations: _,
         loc: _,
-    } = copy.conditionally_qualify_type_references(alloc, namespace)?;
+    } = entity_type.conditionally_qualify_type_references(alloc, namespace)?;
     kind_made(alloc, kind)
-}
-
-/// The name of an entity type in the namespace, at its place; refused where the namespace has `__cedar`.
-#[tactic(auto, unfolding(crate::specs::Faults::entity_faults))]
-fn entity_name(
-    alloc: Global,
-    namespace: Option<&InternalName>,
-    id: &UnreservedId,
-    entity_type: &EntityType<RawName>,
-) -> Out<cedar_names::EntityType, SchemaError>
-    ensures name { IfOk result (λ name. entity_key name
-        ≡ entity_name (option_copied namespace.entry) (id.now, entity_type.now)) }
-    ensures ok { IfOk result
-        (λ _. entity_faults (option_copied namespace.entry) (id.now, entity_type.now) ≡ []) }
-    ensures refused { IfRefused result
-        (λ e. IsFirst (entity_faults (option_copied namespace.entry) (id.now, entity_type.now))
-        (told e)) }
-{
-    let loc = place_of(alloc, entity_type)?;
-    let id = id.dup(alloc)?;
-    entity_type_at(alloc, namespace, id, loc)
 }
 
 /// A copy of the place of an entity type, where it has one.
@@ -136,45 +115,73 @@ fn put_placed<V: Drop>(
     Ok(())
 }
 
+/// Puts what the entity type of an identifier is to the others, under its full name in the namespace, with its place
+/// where it has one; refused where the namespace has `__cedar`.
+fn put_named<V: Drop>(
+    alloc: Global,
+    namespace: Option<&InternalName>,
+    defs: &mut Map<cedar_names::EntityType, V>,
+    locs: &mut Map<cedar_names::EntityType, Loc>,
+    id: UnreservedId,
+    placed: (V, Option<Loc>),
+) -> Out<(), SchemaError>
+    ensures defs { OnOk result (with_keys entity_key defs.new
+        ≡ insert_entry internal_cmp (with_keys entity_key defs.old)
+        (name_at (option_copied namespace.entry) id placed.1) placed.0) }
+    ensures locs { OnOk result (with_keys entity_key locs.new
+        ≡ put_entries internal_cmp (with_keys entity_key locs.old)
+        (entry_of (name_at (option_copied namespace.entry) id placed.1) placed.1)) }
+    ensures ok { OnOk result
+        (reserved_in (option_copied namespace.entry)
+        (components (name_at (option_copied namespace.entry) id placed.1)) ≡ []) }
+    ensures refused { IfRefused result (λ e. IsFirst
+        (reserved_in (option_copied namespace.entry)
+        (components (name_at (option_copied namespace.entry) id placed.1))) (told e)) }
+{
+    let loc = placed.1.dup(alloc)?;
+    let name = entity_type_at(alloc, namespace, id, loc)?;
+    put_placed(alloc, defs, locs, name, placed)?;
+    Ok(())
+}
+
 /// What an entity type is, with its place where it has one.
 fn placed(
     alloc: Global,
     namespace: Option<&InternalName>,
-    entity_type: &EntityType<RawName>,
+    entity_type: EntityType<RawName>,
 ) -> Mem<(EntityTypeFragment<ConditionalName>, Option<Loc>)>
     ensures { IfOk result (λ made. made
-        ≡ (entity_made (option_copied namespace.entry) entity_type.now, entity_type.now.loc)) }
+        ≡ (entity_made (option_copied namespace.entry) entity_type, entity_type.loc)) }
 {
-    let loc = place_of(alloc, entity_type)?;
+    let loc = place_of(alloc, &entity_type)?;
     let fragment = entity_made(alloc, namespace, entity_type)?;
     Ok((fragment, loc))
 }
 
 /// Puts an entity type of the namespace to the others; refused where the namespace has `__cedar`.
+#[tactic(auto, unfolding(crate::specs::Faults::entity_faults))]
 fn declare_entity_type(
     alloc: Global,
     namespace: Option<&InternalName>,
     defs: &mut Map<cedar_names::EntityType, EntityTypeFragment<ConditionalName>>,
     locs: &mut Map<cedar_names::EntityType, Loc>,
-    id: &UnreservedId,
-    entity_type: &EntityType<RawName>,
+    id: UnreservedId,
+    entity_type: EntityType<RawName>,
 ) -> Out<(), SchemaError>
     ensures defs { OnOk result (with_keys entity_key defs.new
         ≡ put_entries internal_cmp (with_keys entity_key defs.old)
-        (entity_in (option_copied namespace.entry) (id.now, entity_type.now) ∷ [])) }
+        (entity_in (option_copied namespace.entry) (id, entity_type) ∷ [])) }
     ensures locs { OnOk result (with_keys entity_key locs.new
         ≡ put_entries internal_cmp (with_keys entity_key locs.old)
-        (entity_place (option_copied namespace.entry) (id.now, entity_type.now))) }
+        (entity_place (option_copied namespace.entry) (id, entity_type))) }
     ensures ok { OnOk result
-        (entity_faults (option_copied namespace.entry) (id.now, entity_type.now) ≡ []) }
+        (entity_faults (option_copied namespace.entry) (id, entity_type) ≡ []) }
     ensures refused { IfRefused result
-        (λ e. IsFirst (entity_faults (option_copied namespace.entry) (id.now, entity_type.now))
+        (λ e. IsFirst (entity_faults (option_copied namespace.entry) (id, entity_type))
         (told e)) }
 {
-    let name = entity_name(alloc, namespace, id, entity_type)?;
     let placed = placed(alloc, namespace, entity_type)?;
-    put_placed(alloc, defs, locs, name, placed)?;
-    Ok(())
+    put_named(alloc, namespace, defs, locs, id, placed)
 }
 
 /// The entity types under their full names in the namespace, in order; refused with the first fault.
@@ -182,19 +189,19 @@ fn declare_entity_type(
 pub(crate) fn entity_types_in(
     alloc: Global,
     namespace: Option<&InternalName>,
-    entity_types: &Map<UnreservedId, EntityType<RawName>>,
+    entity_types: Map<UnreservedId, EntityType<RawName>>,
 ) -> Out<EntityTypesDef<ConditionalName>, SchemaError>
     ensures made { IfOk result
-        (λ made. AreEntityTypes (option_copied namespace.entry) entity_types.now made) }
+        (λ made. AreEntityTypes (option_copied namespace.entry) entity_types made) }
     ensures ok { IfOk result
-        (λ _. flat_map (entity_faults (option_copied namespace.entry)) entity_types.now ≡ []) }
+        (λ _. flat_map (entity_faults (option_copied namespace.entry)) entity_types ≡ []) }
     ensures refused { IfRefused result
-        (λ e. IsFirst (flat_map (entity_faults (option_copied namespace.entry)) entity_types.now)
+        (λ e. IsFirst (flat_map (entity_faults (option_copied namespace.entry)) entity_types)
         (told e)) }
 {
     let mut defs = Map::new(alloc);
     let mut locs = Map::new(alloc);
-    for (id, entity_type) in entity_types.iter() {
+    for (id, entity_type) in entity_types.into_entries() {
         declare_entity_type(alloc, namespace, &mut defs, &mut locs, id, entity_type)?;
     }
     Ok(EntityTypesDef { defs, locs })

@@ -43,17 +43,17 @@ fn namespace_of(name: &Option<Name>) -> Option<&InternalName>
 fn namespace_defined(
     alloc: Global,
     name: &Option<Name>,
-    namespace_def: &NamespaceDefinition<RawName>,
+    namespace_def: NamespaceDefinition<RawName>,
     action_behavior: ActionBehavior,
 ) -> Out<ValidatorNamespaceDef<ConditionalName, ConditionalName>, SchemaError>
     ensures made { IfOk result
-        (λ d. IsDefinitionOf (option_map internal_of name.now) namespace_def.now d) }
+        (λ d. IsDefinitionOf (option_map internal_of name.now) namespace_def d) }
     ensures ok { IfOk result
-        (λ _. definition_faults action_behavior (option_map internal_of name.now) namespace_def.now
+        (λ _. definition_faults action_behavior (option_map internal_of name.now) namespace_def
         ≡ []) }
     ensures refused { IfRefused result
         (λ e. IsFirst
-        (definition_faults action_behavior (option_map internal_of name.now) namespace_def.now)
+        (definition_faults action_behavior (option_map internal_of name.now) namespace_def)
         (told e)) }
 {
     defined(alloc, namespace_of(name), namespace_def, action_behavior)
@@ -62,17 +62,17 @@ fn namespace_defined(
 /// The definitions of the namespaces of a schema, in order; refused with the first fault.
 fn definitions_in(
     alloc: Global,
-    fragment: &Fragment<RawName>,
+    fragment: Fragment<RawName>,
     action_behavior: ActionBehavior,
 ) -> Out<Vec<ValidatorNamespaceDef<ConditionalName, ConditionalName>>, SchemaError>
-    ensures made { IfOk result (λ made. AreDefinitionsOf fragment.now.0 made.items) }
-    ensures ok { IfOk result (λ _. fragment_faults action_behavior fragment.now ≡ []) }
+    ensures made { IfOk result (λ made. AreDefinitionsOf fragment.0 made.items) }
+    ensures ok { IfOk result (λ _. fragment_faults action_behavior fragment ≡ []) }
     ensures refused { IfRefused result
-        (λ e. IsFirst (fragment_faults action_behavior fragment.now) (told e)) }
+        (λ e. IsFirst (fragment_faults action_behavior fragment) (told e)) }
 {
     let mut definitions = Vec::new(alloc);
-    for (name, namespace_def) in fragment.0.iter() {
-        let definition = namespace_defined(alloc, name, namespace_def, action_behavior)?;
+    for (name, namespace_def) in fragment.0.into_entries() {
+        let definition = namespace_defined(alloc, &name, namespace_def, action_behavior)?;
         definitions.push(definition)?;
     }
     Ok(definitions)
@@ -92,7 +92,7 @@ impl FromSchemaFragment for ValidatorSchemaFragment<ConditionalName, Conditional
         ensures refused { IfRefused result
             (λ e. IsFirst (fragment_faults action_behavior fragment) (told e)) }
     {
-        let definitions = definitions_in(alloc, &fragment, action_behavior)?;
+        let definitions = definitions_in(alloc, fragment, action_behavior)?;
         Ok(ValidatorSchemaFragment::from_namespaces(definitions))
     }
 }

@@ -5,7 +5,7 @@ ghost use Rattle.std.specs.Option.{option_copied};
 ghost use Rattle.cedar_data.specs.Answers.{IfRefused};
 ghost use Rattle.cedar_data.specs.Firsts.{IsFirst};
 ghost use Rattle.cedar_schema_error.specs.Told.{told};
-ghost use Rattle.cedar_namespace_definitions.specs.Definitions.{AreEntityTypes, IsDefinitionOf, action_in, common_in, with_keys};
+ghost use Rattle.cedar_namespace_definitions.specs.Definitions.{AreEntityTypes, IsDefinitionOf, action_in, with_keys};
 ghost use Rattle.cedar_namespace_definitions.specs.Faults.{action_faults, action_types, declaration_faults, definition_faults, each_fault, entity_faults};
 ghost use Rattle.cedar_namespace_definitions.specs.NamesIn.{action_key};
 
@@ -13,9 +13,9 @@ use crate::action_attributes::check_attributes;
 use crate::actions::actions_in;
 use crate::common_types::common_types_in;
 use crate::entity_types::entity_types_in;
-use cedar_data::{Dup, Failure, Map, Mem, Out};
-use cedar_definitions::{ActionsDef, CommonTypeDefs, EntityTypesDef, ValidatorNamespaceDef};
-use cedar_fragment::{ConditionalName, EntityType, NamespaceDefinition, RawName};
+use cedar_data::{Dup, Failure, Map, Mem, Out, Text};
+use cedar_definitions::{ActionsDef, EntityTypesDef, ValidatorNamespaceDef};
+use cedar_fragment::{ActionType, ConditionalName, EntityType, NamespaceDefinition, RawName};
 use cedar_names::{Extensions, InternalName, UnreservedId};
 use cedar_schema_error::{ActionBehavior, ActionEntityTypeDeclaredError, SchemaError};
 use std::alloc::Global;
@@ -62,26 +62,14 @@ fn check_declarations(
     check_attributes(alloc, action_behavior, &namespace_def.actions)
 }
 
-/// The common types of the namespace under their full names.
-fn common_types_of(
-    alloc: Global,
-    namespace: Option<&InternalName>,
-    namespace_def: &NamespaceDefinition<RawName>,
-) -> Mem<CommonTypeDefs<ConditionalName>>
-    ensures { IfOk result (λ made. made.defs
-        ≡ map (common_in (option_copied namespace.entry)) namespace_def.now.common_types) }
-{
-    let copy = namespace_def.common_types.dup(alloc)?;
-    common_types_in(alloc, namespace, copy)
-}
-
 /// The entity types and the actions of the namespace; refused with the first fault of an action, else of an entity
 /// type.
 #[tactic(auto, using(crate::proofs::Faultless::firsts))]
 fn types_and_actions(
     alloc: Global,
     namespace: Option<&InternalName>,
-    namespace_def: &NamespaceDefinition<RawName>,
+    entity_types: Map<UnreservedId, EntityType<RawName>>,
+    actions: Map<Text, ActionType<RawName>>,
 ) -> Out<
     (
         EntityTypesDef<ConditionalName>,
@@ -90,17 +78,17 @@ fn types_and_actions(
     SchemaError,
 >
     ensures entity_types { IfOk result
-        (λ made. AreEntityTypes
-        (option_copied namespace.entry) namespace_def.now.entity_types made.0) }
+        (λ made. AreEntityTypes (option_copied namespace.entry) entity_types made.0) }
     ensures actions { IfOk result (λ made. with_keys action_key made.1.actions
-        ≡ map (action_in (option_copied namespace.entry)) namespace_def.now.actions) }
-    ensures ok { IfOk result (λ _. each_fault (option_copied namespace.entry) namespace_def.now
-        ≡ []) }
+        ≡ map (action_in (option_copied namespace.entry)) actions) }
+    ensures ok { IfOk result (λ _. flat_map (action_faults (option_copied namespace.entry)) actions
+        ++ flat_map (entity_faults (option_copied namespace.entry)) entity_types ≡ []) }
     ensures refused { IfRefused result
-        (λ e. IsFirst (each_fault (option_copied namespace.entry) namespace_def.now) (told e)) }
+        (λ e. IsFirst (flat_map (action_faults (option_copied namespace.entry)) actions
+        ++ flat_map (entity_faults (option_copied namespace.entry)) entity_types) (told e)) }
 {
-    let actions = actions_in(alloc, namespace, &namespace_def.actions)?;
-    let entity_types = entity_types_in(alloc, namespace, &namespace_def.entity_types)?;
+    let actions = actions_in(alloc, namespace, actions)?;
+    let entity_types = entity_types_in(alloc, namespace, entity_types)?;
     Ok((entity_types, actions))
 }
 
@@ -122,17 +110,23 @@ fn namespace_copied(alloc: Global, namespace: Option<&InternalName>) -> Mem<Opti
 fn each_defined(
     alloc: Global,
     namespace: Option<&InternalName>,
-    namespace_def: &NamespaceDefinition<RawName>,
+    namespace_def: NamespaceDefinition<RawName>,
 ) -> Out<ValidatorNamespaceDef<ConditionalName, ConditionalName>, SchemaError>
     ensures made { IfOk result
-        (λ d. IsDefinitionOf (option_copied namespace.entry) namespace_def.now d) }
-    ensures ok { IfOk result (λ _. each_fault (option_copied namespace.entry) namespace_def.now
+        (λ d. IsDefinitionOf (option_copied namespace.entry) namespace_def d) }
+    ensures ok { IfOk result (λ _. each_fault (option_copied namespace.entry) namespace_def
         ≡ []) }
     ensures refused { IfRefused result
-        (λ e. IsFirst (each_fault (option_copied namespace.entry) namespace_def.now) (told e)) }
+        (λ e. IsFirst (each_fault (option_copied namespace.entry) namespace_def) (told e)) }
 {
-    let (entity_types, actions) = types_and_actions(alloc, namespace, namespace_def)?;
-    let common_types = common_types_of(alloc, namespace, namespace_def)?;
+    let NamespaceDefinition {
+        common_types,
+        entity_types,
+        actions,
+        annotations: _,
+    } = namespace_def;
+    let (entity_types, actions) = types_and_actions(alloc, namespace, entity_types, actions)?;
+    let common_types = common_types_in(alloc, namespace, common_types)?;
     let namespace = namespace_copied(alloc, namespace)?;
     Ok(ValidatorNamespaceDef {
         namespace,
@@ -147,20 +141,20 @@ fn each_defined(
 pub(crate) fn defined(
     alloc: Global,
     namespace: Option<&InternalName>,
-    namespace_def: &NamespaceDefinition<RawName>,
+    namespace_def: NamespaceDefinition<RawName>,
     action_behavior: ActionBehavior,
 ) -> Out<ValidatorNamespaceDef<ConditionalName, ConditionalName>, SchemaError>
     ensures made { IfOk result
-        (λ d. IsDefinitionOf (option_copied namespace.entry) namespace_def.now d) }
+        (λ d. IsDefinitionOf (option_copied namespace.entry) namespace_def d) }
     ensures ok { IfOk result
-        (λ _. definition_faults action_behavior (option_copied namespace.entry) namespace_def.now
+        (λ _. definition_faults action_behavior (option_copied namespace.entry) namespace_def
         ≡ []) }
     ensures refused { IfRefused result
         (λ e. IsFirst
-        (definition_faults action_behavior (option_copied namespace.entry) namespace_def.now)
+        (definition_faults action_behavior (option_copied namespace.entry) namespace_def)
         (told e)) }
 {
-    check_declarations(alloc, namespace_def, action_behavior)?;
+    check_declarations(alloc, &namespace_def, action_behavior)?;
     each_defined(alloc, namespace, namespace_def)
 }
 
@@ -183,6 +177,6 @@ impl FromNamespaceDefinition for ValidatorNamespaceDef<ConditionalName, Conditio
         ensures refused { IfRefused result
             (λ e. IsFirst (definition_faults action_behavior namespace namespace_def) (told e)) }
     {
-        defined(alloc, namespace.as_ref(), &namespace_def, action_behavior)
+        defined(alloc, namespace.as_ref(), namespace_def, action_behavior)
     }
 }
