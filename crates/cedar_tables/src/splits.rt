@@ -165,7 +165,7 @@ impl EntitySplits {
     {
         let mut splits = EntitySplits {
             outlines: Map::new(alloc),
-            shapes: Vec::new(alloc),
+            shapes: Vec::with_capacity(alloc, entities.len())?,
             tags: Vec::new(alloc),
         };
         for (name, entity) in entities.into_entries() {
@@ -235,7 +235,7 @@ impl ActionSplits {
     {
         let mut splits = ActionSplits {
             outlines: Map::new(alloc),
-            contexts: Vec::new(alloc),
+            contexts: Vec::with_capacity(alloc, actions.len())?,
         };
         for (uid, action) in actions.into_entries() {
             splits.push(alloc, uid, action)?;
