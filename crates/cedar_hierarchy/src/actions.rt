@@ -124,7 +124,7 @@ fn action_nodes(
     ensures { IfOk result
         (AllZip (IsActionNode (names_of all_defs.now) children.now.entries uses.now) outlines) }
 {
-    let mut nodes = Vec::new(alloc);
+    let mut nodes = Vec::with_capacity(alloc, outlines.len())?;
     for (uid, outline) in outlines.into_entries() {
         let node = action_node(alloc, all_defs, uid, outline, children, uses)?;
         nodes.push(node)?;

@@ -125,7 +125,7 @@ fn entity_nodes(
 ) -> Mem<Map<EntityType, ValidatorEntityType>>
     ensures { IfOk result (AllZip (IsEntityNode children.now.entries uses.now) outlines) }
 {
-    let mut nodes = Vec::new(alloc);
+    let mut nodes = Vec::with_capacity(alloc, outlines.len())?;
     for (name, outline) in outlines.into_entries() {
         let node = entity_node(alloc, name, outline, children, uses)?;
         nodes.push(node)?;
