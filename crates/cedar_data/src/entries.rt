@@ -188,7 +188,7 @@ fn append<K: Ord + Drop, V: Drop>(alloc: Global, held: &mut Held<K, V>, key: K, 
     Ok(())
 }
 
-/// Whether the key is known to be greater than all others, by the last of them alone.
+/// True only where the key is greater than all others, which the last of them tells.
 fn ends_before<K: Ord, V>(held: &Held<K, V>, key: &K) -> bool
     requires { IsOrderedHeld K.cmp held.now }
     ensures { (result ≡ true)

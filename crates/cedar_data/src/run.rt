@@ -103,7 +103,7 @@ impl<K: Ord, V> Run<K, V> {
         entries
     }
 
-    /// Whether there is a last entry, and its key is less than this one.
+    /// True only where there is a last entry, and its key is less than this one.
     pub(crate) fn ends_before(&self, key: &K) -> bool
         ensures { (result ≡ true) → EndsBefore K.cmp self.now key.now }
     {
