@@ -47,6 +47,15 @@ def print_counts(program):
             print_row(shown, n, f"{seconds:.3f}", f"{memory:.0f}", *peer)
 
 
+def print_long(program):
+    """As much as may be given."""
+    print("\n`resolve`, 4 MiB\n")
+    print_head("text", "bytes", "seconds (processor)", "peak MB")
+    for name, text in ("a realistic schema", texts.realistic()), ("namespaces of every form", texts.every_form()):
+        seconds, memory = timed(program, text, ("resolve",))
+        print_row(name, len(text), f"{seconds:.3f}", f"{memory:.0f}")
+
+
 def json_of_text(program, text):
     """What the program writes in JSON of a text."""
     return subprocess.run([program, "to-json"], input=text, stdout=subprocess.PIPE, check=True, text=True).stdout
@@ -118,11 +127,7 @@ def main():
     program = program_to_time()
     print_generated(program)
     print_counts(program)
-    full = texts.every_form()
-    print("\n`resolve`, 4 MiB of namespaces of every form\n")
-    print_head("bytes", "seconds (processor)", "peak MB")
-    seconds, memory = timed(program, full, ("resolve",))
-    print_row(len(full), f"{seconds:.3f}", f"{memory:.0f}")
+    print_long(program)
     print_json(program)
     print_conversion(program)
     print_growth(program, "`to-json`", ("to-json",), CONVERSION)

@@ -33,6 +33,104 @@ def every_form(size=LIMIT):
         i += 1
 
 
+DEPARTMENT = '''\
+// What the {word} department keeps, and who may work with it.
+namespace Company::{name} {{
+  /// Where a person or a building can be reached.
+  type Address = {{
+    street: String,
+    city: String,
+    postalCode: String,
+    country?: String,
+  }};
+  type Contact = {{
+    email: String,
+    phone?: String,
+    address: Address,
+  }};
+
+  // People and the groups they belong to.
+  entity Team in [Department] = {{
+    title: String,
+    lead?: Employee,
+  }};
+  entity Department {{
+    title: String,
+    budget: Long,
+  }};
+  @doc("Somebody who works in the company.")
+  entity Employee in [Team, Department] = {{
+    name: String,
+    contact: Contact,
+    hiredOn: datetime,
+    clearance: Long,
+    manager?: Employee,
+    networks: Set<ipaddr>,
+    preferences: {{
+      language: String,
+      notifications: {{ byEmail: Bool, byPhone: Bool }},
+    }},
+  }} tags Set<String>;
+
+  // Documents and where they lie.
+  entity Folder in [Folder] = {{
+    owner: Employee,
+    createdOn: datetime,
+    isArchived: Bool,
+  }};
+  entity Document in [Folder] = {{
+    owner: Employee,
+    title: String,
+    readers: Set<Team>,
+    editors: Set<Team>,
+    labels: Set<String>,
+    history: Set<{{
+      changedBy: Employee,
+      changedOn: datetime,
+      comment?: String,
+    }}>,
+  }} tags String;
+  entity Status enum ["draft", "published", "withdrawn"];
+
+  // What may be done.
+  action readOnly;
+  action viewDocument, listFolder in [readOnly] appliesTo {{
+    principal: [Employee, Team],
+    resource: [Document, Folder],
+    context: {{
+      authenticated: Bool,
+      sourceAddress: ipaddr,
+      requestedOn: datetime,
+    }},
+  }};
+  action editDocument, deleteDocument appliesTo {{
+    principal: Employee,
+    resource: Document,
+    context: {{
+      authenticated: Bool,
+      reason?: String,
+    }},
+  }};
+}}
+
+'''
+
+DEPARTMENTS = ("Sales", "Research", "Finance", "Legal", "Support", "Logistics", "Marketing", "Production")
+
+
+def realistic(size=LIMIT):
+    """A schema as people lay one out, with comments, of as many departments as fit."""
+    pieces, length, i = [], 0, 0
+    while True:
+        name = DEPARTMENTS[i % len(DEPARTMENTS)]
+        piece = DEPARTMENT.format(word=name.lower(), name=f"{name}{i // len(DEPARTMENTS) + 1}")
+        if length + len(piece) > size:
+            return "".join(pieces)
+        pieces.append(piece)
+        length += len(piece)
+        i += 1
+
+
 def plain(n):
     """Declarations of entity types, one below the other."""
     return "".join(f"entity Entity{i} {{ name: String, next: Entity{(i + 1) % n} }};\n" for i in range(n))

@@ -4,9 +4,12 @@
 The environment variable JOISTGINGER_PEER may name another program that resolves a
 schema from standard input at the word `resolve`, such as one over the Rust crate. Each
 row then has its processor seconds on the same text, and the ratio of the first to these.
+Our program has the settings of the allocator with which the script `joistginger` runs it,
+unless GLIBC_TUNABLES is set already; the other program has none.
 """
 import contextlib
 import os
+import re
 import subprocess
 import sys
 import tempfile
@@ -25,6 +28,13 @@ def program_to_time():
     return built.stdout.decode().strip()
 
 
+def tuned():
+    """The environment in which the script `joistginger` runs the program."""
+    with open(os.path.join(TOP, "joistginger")) as script:
+        allocator = re.search(r"^allocator=(\S+)$", script.read(), re.MULTILINE).group(1)
+    return {"GLIBC_TUNABLES": allocator, **os.environ}
+
+
 @contextlib.contextmanager
 def written(text):
     """The path of a file that holds the text."""
@@ -37,7 +47,8 @@ def written(text):
 def run(program, path, statuses, words=("resolve",)):
     """Processor seconds and peak memory in MB of one run, which has to end with one of these statuses."""
     with open(path, "rb") as source, open(os.devnull, "wb") as out:
-        child = subprocess.Popen([program, *words], stdin=source, stdout=out, stderr=out)
+        environment = os.environ if program == PEER else tuned()
+        child = subprocess.Popen([program, *words], stdin=source, stdout=out, stderr=out, env=environment)
         _, status, usage = os.wait4(child.pid, 0)
     child.returncode = os.waitstatus_to_exitcode(status)
     if child.returncode not in statuses:
