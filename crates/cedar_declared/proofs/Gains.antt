@@ -3,6 +3,7 @@
 use Rattle.std.proofs.Common.{◌≡◌, ◌||◌, Bool, true, false, List, [], ◌∷◌, ◌++◌, map, fold, refl, sym, ap, ◌∙◌, subst}
 use Rattle.std.proofs.lemmas.Cmp.{nat_list_cmp_total}
 use Rattle.std.proofs.lemmas.List.Folds.{list_any-append}
+use Rattle.std.proofs.lemmas.Grind.{flat_map-append}
 use Rattle.std.proofs.lemmas.List.Sums.{fold-append}
 use Rattle.std.specs.BTreeMap.{is_at}
 use Rattle.std.specs.BTreeSet.{insert_key}
@@ -35,6 +36,12 @@ pass true false c = refl
 pass false true c = refl
 pass false false c = refl
 
+swapped : (a b : Bool) → (a || b) ≡ (b || a)
+swapped true true = refl
+swapped true false = refl
+swapped false true = refl
+swapped false false = refl
+
 none_of : (b : Bool) → (b || false) ≡ b
 none_of true = refl
 none_of false = refl
@@ -64,6 +71,10 @@ actions_gained t (e ∷ es) u =
 -- what the first adds, and what the others add
 joined : {K : Type 0} (p : K → Bool) (first others : List K) (old : Bool) → (list_any p others || (list_any p first || old)) ≡ (list_any p (first ++ others) || old)
 joined p first others old = pass (list_any p others) (list_any p first) old ∙ ap (λ b. b || old) (sym (list_any-append p first others))
+
+-- what the others have, and what the first have
+both : {K : Type 0} (p : K → Bool) (first others : List K) → (list_any p others || list_any p first) ≡ list_any p (first ++ others)
+both p first others = swapped (list_any p others) (list_any p first) ∙ sym (list_any-append p first others)
 
 module _ {N A : Type 0} {R : ref_name.Ghosts N} where
   abbrev entities_of : ValidatorNamespaceDef N A R → List FullName
@@ -123,3 +134,16 @@ module _ {N A : Type 0} {R : ref_name.Ghosts N} where
 
   pub gathers_all : (all : AllDefs) (alloc : Global) (fs : List (ValidatorSchemaFragment N A R)) → all ≡ fold with_fragment (no_names alloc) fs → SameNames (names_of all) (declared_names (flat_map definitions_of fs))
   gathers_all all alloc fs is = subst (λ all. SameNames (names_of all) (declared_names (flat_map definitions_of fs))) (sym is) (gathered_of_all alloc fs)
+
+  -- the names of definitions, and those of a fragment that are put to them
+  pub gathers_more : (own all : AllDefs) (ds : List (ValidatorNamespaceDef N A R)) (f : ValidatorSchemaFragment N A R) → SameNames (names_of own) (declared_names ds) → all ≡ with_fragment own f → SameNames (names_of all) (declared_names (ds ++ definitions_of f))
+  unfolding with_fragment
+  gathers_more own all ds f same is = subst (λ all. SameNames (names_of all) (declared_names (ds ++ definitions_of f))) (sym is) (record {
+    entity = λ n. entities_gained own (definitions_of f) n ∙ ap (λ b. is_entity (declared_names (definitions_of f)) (components n) || b) (same.entity n)
+        ∙ both (is_at (words_cmp (components n))) (flat_map entities_of ds) (flat_map entities_of (definitions_of f)) ∙ sym (ap (list_any (is_at (words_cmp (components n)))) (flat_map-append entities_of ds (definitions_of f)));
+    common = λ n. commons_gained own (definitions_of f) n ∙ ap (λ b. is_common (declared_names (definitions_of f)) (components n) || b) (same.common n)
+        ∙ both (is_at (words_cmp (components n))) (flat_map commons_of ds) (flat_map commons_of (definitions_of f)) ∙ sym (ap (list_any (is_at (words_cmp (components n)))) (flat_map-append commons_of ds (definitions_of f)));
+    action = λ u. any_map (is_at (uid_cmp (uid_in u))) uid_in (fold with_definition own (definitions_of f)).actions ∙ all_actions_gained own (definitions_of f) u
+        ∙ ap (λ b. is_action (declared_names (definitions_of f)) (uid_in u) || b) (sym (any_map (is_at (uid_cmp (uid_in u))) uid_in own.actions) ∙ same.action u)
+        ∙ both (is_at (uid_cmp (uid_in u))) (flat_map actions_of ds) (flat_map actions_of (definitions_of f)) ∙ sym (ap (list_any (is_at (uid_cmp (uid_in u)))) (flat_map-append actions_of ds (definitions_of f)));
+  })

@@ -1,4 +1,5 @@
 -- SPDX-License-Identifier: Apache-2.0
+pub mod Basenames
 pub mod FoundTargets
 pub mod Gains
 pub mod Indexed

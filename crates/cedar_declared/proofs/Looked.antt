@@ -7,7 +7,8 @@ use Rattle.std.specs.BTreeSet.{insert_key}
 use Rattle.std.specs.Cmp.{IsTotalOrder, on_total}
 use Rattle.std.proofs.lemmas.Cmp.{eq_by_cmp_equiv, nat_list_cmp_total}
 use Rattle.cedar_names.specs.OrderLaws.{words-total}
-use Rattle.cedar_declared.specs.TypeNames.{AddsName, id_cmp, put_name, with_name}
+use Rattle.cedar_declared.specs.Basenames.{id_cmp}
+use Rattle.cedar_declared.specs.TypeNames.{AddsName, put_name, with_name}
 use Rattle.std.specs.List.{filter, list_any}
 use Rattle.std.specs.Map.{keys_of}
 use Rattle.std.specs.Ordering.{is_eq, match_ordering, ordering_then}

@@ -13,7 +13,7 @@ use Rattle.cedar_names.specs.declared.internal_name.InternalName.{InternalName}
 use Rattle.cedar_text.specs.declared.location.Loc.{Loc}
 use Rattle.cedar_schema_error.specs.FullNames.{is_qualified}
 use Rattle.cedar_declared.specs.Held.{single_names, type_names}
-use Rattle.cedar_declared.specs.TypeNames.{id_cmp}
+use Rattle.cedar_declared.specs.Basenames.{id_cmp}
 use Rattle.cedar_declared.specs.declared.type_names.TypeNames.{TypeNames}
 use Rattle.cedar_declared.proofs.Looked.{single_kept}
 

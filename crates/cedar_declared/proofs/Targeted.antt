@@ -1,6 +1,6 @@
 -- SPDX-License-Identifier: Apache-2.0
 -- What comes of a reference, by whether it may stand for a declared name.
-use Rattle.std.proofs.Common.{◌≡◌, ◌||◌, ℕ, List, IsTrue, not, map, Bool, true, false, [], ◌∷◌, Option, Some, None, refl, sym, ap, ◌∙◌, is_some, subst, unwrap_or, MatchResult, MatchOption}
+use Rattle.std.proofs.Common.{◌≡◌, ◌||◌, ℕ, List, IsTrue, not, map, Bool, true, false, cond, [], ◌∷◌, Option, Some, None, refl, sym, ap, ◌∙◌, is_some, subst, unwrap_or, MatchResult, MatchOption}
 use Rattle.std.specs.List.{find}
 use Rattle.std.specs.BTreeMap.{is_at}
 use Rattle.std.specs.Ordering.{is_eq, ordering_then}
@@ -23,8 +23,6 @@ use Rattle.cedar_declared.specs.declared.all_defs.AllDefs.{AllDefs}
 use Rattle.std.specs.declared.result.Result.TheVariants.{Ok, Err}
 use Rattle.cedar_names.specs.Components.{components, has_cedar}
 use Rattle.cedar_names.specs.declared.internal_name.InternalName.{InternalName}
-use Rattle.cedar_text.specs.Lists.{elements}
-use Rattle.cedar_text.specs.declared.non_empty.NonEmpty.{NonEmpty}
 use Rattle.cedar_written.specs.Possibilities.{kind_of, leading, possibilities_of}
 use Rattle.cedar_written.specs.declared.conditional_name.ConditionalName.{ConditionalName}
 use Rattle.cedar_written.specs.declared.reference_type.ReferenceType.{ReferenceType}
@@ -33,22 +31,40 @@ use Rattle.cedar_declared.specs.Names.{Names, is_action, is_declared}
 use Rattle.cedar_declared.specs.Targets.{action_at, found, or_refused, resolved, resolving}
 
 module _ (names : Names) (n : ConditionalName) where
-  -- it becomes the one that was found
-  pub resolved_to : (kind : ReferenceType) (ps : NonEmpty InternalName) (r : InternalName) → kind ≡ kind_of n → ps ≡ possibilities_of n → find (λ p. is_declared names kind (components p)) (elements ps) ≡ Some r → Ok r ≡ resolved names n
-  resolved_to kind ps r k p is =
-      sym (ap (or_refused (record { undefined_types = leading n [] })) ((λ i. find (λ q. is_declared names (sym k i) (components q)) (elements (sym p i))) ∙ is))
+  abbrev is_target : InternalName → Bool
+  is_target p = is_declared names (kind_of n) (components p)
 
-  -- one was found among these
-  pub some_found : (kind : ReferenceType) (ps : NonEmpty InternalName) (b : Bool) → kind ≡ kind_of n → ps ≡ possibilities_of n → b ≡ is_some (found names n) → b ≡ true → is_some (find (λ p. is_declared names kind (components p)) (elements ps)) ≡ true
-  some_found kind ps b k p is yes-found = (λ i. is_some (find (λ q. is_declared names (k i) (components q)) (elements (p i)))) ∙ sym is ∙ yes-found
+  -- it becomes the first, where that is declared
+  pub resolved_first : (first : InternalName) (b : Bool) → first ≡ (possibilities_of n).head → b ≡ is_declared names (kind_of n) (components (possibilities_of n).head) → b ≡ true → Ok first ≡ resolved names n
+  resolved_first first b same is yes-declared =
+      ap (λ p. Ok p) same
+      ∙ sym (ap (λ d. or_refused (record { undefined_types = leading n [] }) (cond d (Some (possibilities_of n).head) (find is_target (possibilities_of n).tail))) (sym is ∙ yes-declared))
+
+  -- one of the others is declared
+  pub some_other : (kind : ReferenceType) (others : List InternalName) (b : Bool) → kind ≡ kind_of n → others ≡ (possibilities_of n).tail → b ≡ is_some (find (λ p. is_declared names (kind_of n) (components p)) (possibilities_of n).tail) → b ≡ true → is_some (find (λ p. is_declared names kind (components p)) others) ≡ true
+  some_other kind others b k o is yes-found = (λ i. is_some (find (λ q. is_declared names (k i) (components q)) (o i))) ∙ sym is ∙ yes-found
+
+  after_first : (b : Bool) (first : InternalName) (o : Option InternalName) → b ≡ false → cond b (Some first) o ≡ o
+  after_first b first o none = ap (λ b. cond b (Some first) o) none
+
+  -- else it becomes the first of the others that is
+  pub resolved_other : (kind : ReferenceType) (others : List InternalName) (r : InternalName) (b : Bool) → kind ≡ kind_of n → others ≡ (possibilities_of n).tail → find (λ p. is_declared names kind (components p)) others ≡ Some r
+      → b ≡ is_declared names (kind_of n) (components (possibilities_of n).head) → b ≡ false → Ok r ≡ resolved names n
+  resolved_other kind others r b k o is first none =
+      sym (ap (or_refused (record { undefined_types = leading n [] }))
+      (after_first (is_target (possibilities_of n).head) (possibilities_of n).head (find is_target (possibilities_of n).tail) (sym first ∙ none)
+      ∙ (λ i. find (λ q. is_declared names (sym k i) (components q)) (sym o i)) ∙ is))
 
   none_by : (o : Option InternalName) → is_some o ≡ false → (e : TypeNotDefinedError) → Err e ≡ or_refused e o
   none_by None is e = refl
   none_by (Some r) is e = absurd (cc)
 
-  -- none was found
-  pub refused_as : (e : TypeNotDefinedError) (b : Bool) → e ≡ record { undefined_types = leading n [] } → b ≡ is_some (found names n) → b ≡ false → Err e ≡ resolved names n
-  refused_as e b same is none = ap Err same ∙ none_by (found names n) (sym is ∙ none) (record { undefined_types = leading n [] })
+  -- none is
+  pub refused_as : (e : TypeNotDefinedError) (b c : Bool) → e ≡ record { undefined_types = leading n [] } → b ≡ is_declared names (kind_of n) (components (possibilities_of n).head) → b ≡ false
+      → c ≡ is_some (find (λ p. is_declared names (kind_of n) (components p)) (possibilities_of n).tail) → c ≡ false → Err e ≡ resolved names n
+  refused_as e b c same first none others none-found =
+      ap Err same
+      ∙ none_by (found names n) (ap is_some (after_first (is_target (possibilities_of n).head) (possibilities_of n).head (find is_target (possibilities_of n).tail) (sym first ∙ none)) ∙ sym others ∙ none-found) (record { undefined_types = leading n [] })
 
 -- a refused reference is refused by the step
 pub refused_step : (names : Names) (k : ReferenceType) (n : ConditionalName) (e : TypeNotDefinedError) → Err e ≡ resolved names n → resolving names (named k n) ≡ Err (TypeNotDefined e)
@@ -99,4 +115,4 @@ no_action ty id reserved (u ∷ us) = either_off _ _ (apart (is_at (uid_cmp (rec
 pub reserved_undeclared : (d : AllDefs) (id : List ℕ) (ty : InternalName) (o : Option EntityUID) → MatchOption o (has_cedar (components ty) ≡ true) (λ u. uid_in u ≡ action_at id ty) → o ≡ None → false ≡ is_action (names_of d) (action_at id ty)
 reserved_undeclared d id ty o is none = sym (no_action (components ty) id (subst (λ o. MatchOption o (has_cedar (components ty) ≡ true) (λ u. uid_in u ≡ action_at id ty)) none is) d.actions)
 
-pub ruleset targeted = (resolved_to, some_found, refused_as)
+pub ruleset targeted = (resolved_first, some_other, resolved_other, refused_as)

@@ -3,24 +3,19 @@
 use Rattle.std.specs.Prelude.{◌≡◌, ◌||◌, cond, List, [], ◌∷◌, Option, Some, None, unwrap_or}
 use Rattle.std.specs.BTreeMap.{insert_entry, is_at}
 use Rattle.std.specs.BTreeSet.{insert_key}
-use Rattle.std.specs.declared.cmp.Ordering.{Ordering}
 use Rattle.cedar_data.specs.Maps.{get}
 use Rattle.cedar_data.specs.Sets.{contains}
 use Rattle.cedar_names.specs.Components.{basename_of, components, loc_of, namespace_of}
-use Rattle.cedar_names.specs.Identifiers.{id_word}
 use Rattle.cedar_names.specs.Names.{internal_cmp}
-use Rattle.cedar_names.specs.Order.{word_cmp, words_cmp}
+use Rattle.cedar_names.specs.Order.{words_cmp}
 use Rattle.cedar_names.specs.declared.id.Id.{Id}
 use Rattle.cedar_names.specs.declared.internal_name.InternalName.{InternalName}
 use Rattle.cedar_text.specs.declared.location.Loc.{Loc}
 use Rattle.cedar_schema_error.specs.FullNames.{FullName}
+use Rattle.cedar_declared.specs.Basenames.{id_cmp}
 use Rattle.cedar_declared.specs.Held.{type_names}
 use Rattle.cedar_declared.specs.declared.all_defs.AllDefs.{AllDefs}
 use Rattle.cedar_declared.specs.declared.type_names.TypeNames.{TypeNames}
-
--- the order of identifiers
-abbrev pub id_cmp : Id → Id → Ordering
-id_cmp a b = word_cmp (id_word a) (id_word b)
 
 -- a name put to the others, given its namespace
 abbrev pub put_name : TypeNames → InternalName → List Id → TypeNames

@@ -60,6 +60,13 @@ impl ActionNames {
         self.uids.iter()
     }
 
+    /// The actions as a set.
+    pub(crate) fn into_uids(self) -> Set<EntityUID>
+        ensures { result ≡ self }
+    {
+        self.uids
+    }
+
     /// The least of this id whose type has no namespace.
     pub(crate) fn alone(&self, id: &Eid) -> Option<&EntityUID>
         ensures { option_map uid_in (option_copied result)

@@ -165,4 +165,27 @@ impl AllDefs {
         let all = names.indexed(alloc)?;
         Ok(all)
     }
+
+    /// These names, and those that the definitions of a fragment declare.
+    pub fn with_fragment<N: RefName + Ord, A: Ord>(
+        self,
+        fragment: &ValidatorSchemaFragment<N, A>,
+    ) -> Mem<AllDefs>
+        ensures { IfOk result (λ all. all ≡ with_fragment self fragment.now) }
+    {
+        let AllDefs {
+            alloc,
+            entity_types,
+            common_types,
+            actions,
+        } = self;
+        let mut names = Gathered {
+            entity_types,
+            common_types,
+            actions: actions.into_uids(),
+        };
+        names.insert_fragment(alloc, fragment)?;
+        let all = names.indexed(alloc)?;
+        Ok(all)
+    }
 }

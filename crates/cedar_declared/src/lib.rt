@@ -8,6 +8,7 @@ mod fully_qualify;
 mod gathered;
 mod laws;
 mod listed;
+mod name_set;
 mod resolve;
 mod resolving;
 mod type_names;

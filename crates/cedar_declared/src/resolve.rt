@@ -3,16 +3,18 @@ ghost use Rattle.std.specs.Prelude.{◌≡◌, Some, true};
 ghost use Rattle.std.specs.List.{find};
 ghost use Rattle.std.specs.Option.{is_some};
 ghost use Rattle.cedar_names.specs.Components.{components};
-ghost use Rattle.cedar_text.specs.Lists.{elements};
+ghost use Rattle.cedar_text.specs.Lists.{elements_left};
+ghost use Rattle.cedar_written.specs.Possibilities.{kind_of, possibilities_of};
 ghost use Rattle.cedar_declared.specs.Held.{names_of};
 ghost use Rattle.cedar_declared.specs.Names.{is_declared};
-ghost use Rattle.cedar_declared.specs.Targets.{found, resolved};
+ghost use Rattle.cedar_declared.specs.Targets.{resolved};
 
 use crate::all_defs::AllDefs;
+use cedar_data::Items;
 use cedar_definitions::{ConditionalName, ReferenceType};
 use cedar_names::InternalName;
 use cedar_schema_error::TypeNotDefinedError;
-use cedar_text::NonEmpty;
+use cedar_text::{NonEmpty, NonEmptyIter};
 
 /// Names that are references.
 pub trait ResolveName: Sized {
@@ -35,9 +37,13 @@ impl ResolveName for ConditionalName {
     #[tactic(auto, using(crate::proofs::Targeted::targeted))]
     fn resolve(self, all_defs: &AllDefs) -> Result<InternalName, TypeNotDefinedError> {
         let kind = self.reference_type();
-        if all_defs.has_target(&self) {
-            let names = self.into_possibilities();
-            return Ok(first_declared(all_defs, kind, names));
+        if all_defs.is_first_declared(&self) {
+            let NonEmpty { head, tail: _ } = self.into_possibilities();
+            return Ok(head);
+        }
+        if all_defs.is_other_declared(&self) {
+            let NonEmpty { head: _, tail } = self.into_possibilities();
+            return Ok(first_declared(all_defs, kind, tail));
         }
         let undefined_types = NonEmpty::singleton(all_defs.alloc, self);
         Err(TypeNotDefinedError { undefined_types })
@@ -48,19 +54,14 @@ impl ResolveName for ConditionalName {
 fn first_declared(
     all_defs: &AllDefs,
     kind: ReferenceType,
-    names: NonEmpty<InternalName>,
+    names: Items<InternalName>,
 ) -> InternalName
-    requires { is_some
-        (find (λ p. is_declared (names_of all_defs.now) kind (components p)) (elements names))
+    requires { is_some (find (λ p. is_declared (names_of all_defs.now) kind (components p)) names)
         ≡ true }
-    ensures { find (λ p. is_declared (names_of all_defs.now) kind (components p)) (elements names)
+    ensures { find (λ p. is_declared (names_of all_defs.now) kind (components p)) names
         ≡ Some result }
 {
-    let NonEmpty { head, tail } = names;
-    if all_defs.is_declared(kind, &head) {
-        return head;
-    }
-    for name in tail.into_vec() {
+    for name in names.into_vec() {
         if all_defs.is_declared(kind, &name) {
             return name;
         }
@@ -70,7 +71,7 @@ fn first_declared(
 
 impl AllDefs {
     /// Whether the name is declared as what the kind allows.
-    pub(crate) fn is_declared(&self, kind: ReferenceType, name: &InternalName) -> bool
+    fn is_declared(&self, kind: ReferenceType, name: &InternalName) -> bool
         ensures { result ≡ is_declared (names_of self.now) kind (components name.now) }
     {
         match kind {
@@ -82,16 +83,39 @@ impl AllDefs {
         }
     }
 
-    /// Whether a reference means a declared name.
-    pub(crate) fn has_target(&self, name: &ConditionalName) -> bool
-        ensures { result ≡ is_some (found (names_of self.now) name.now) }
+    /// Whether the first name that a reference may stand for is declared as what it may be.
+    fn is_first_declared(&self, name: &ConditionalName) -> bool
+        ensures { result ≡ is_declared (names_of self.now) (kind_of name.now)
+            (components (possibilities_of name.now).head) }
     {
-        let kind = name.reference_type();
-        for possibility in name.possibilities() {
-            if self.is_declared(kind, possibility) {
+        match name.possibilities().next() {
+            Some(first) => self.is_declared(name.reference_type(), first),
+            None => unreachable!(),
+        }
+    }
+
+    /// Whether one of the names is declared as what the kind allows.
+    fn is_any_declared(&self, kind: ReferenceType, names: NonEmptyIter<'_, InternalName>) -> bool
+        ensures { result ≡ is_some (find
+            (λ p. is_declared (names_of self.now) kind (components p))
+            (elements_left names.entry)) }
+    {
+        for name in names {
+            if self.is_declared(kind, name) {
                 return true;
             }
         }
         false
+    }
+
+    /// Whether another name that a reference may stand for is declared as what it may be.
+    fn is_other_declared(&self, name: &ConditionalName) -> bool
+        ensures { result ≡ is_some (find
+            (λ p. is_declared (names_of self.now) (kind_of name.now) (components p))
+            (possibilities_of name.now).tail) }
+    {
+        let mut others = name.possibilities();
+        others.next();
+        self.is_any_declared(name.reference_type(), others)
     }
 }

@@ -6,7 +6,8 @@ ghost use Rattle.cedar_names.specs.Order.{words_cmp};
 ghost use Rattle.cedar_declared.specs.Held.{type_names};
 ghost use Rattle.cedar_declared.specs.TypeNames.{with_name};
 
-use cedar_data::{Dup, Map, Mem, Set};
+use crate::name_set::NameSet;
+use cedar_data::{Dup, Map, Mem};
 use cedar_names::{Id, InternalName};
 use cedar_text::Loc;
 use std::alloc::Global;
@@ -15,7 +16,7 @@ use std::alloc::Global;
 #[derive(Debug, Drop)]
 pub(crate) struct TypeNames {
     pub(crate) unqualified: Map<Id, Option<Loc>>,
-    pub(crate) qualified: Set<InternalName>,
+    pub(crate) qualified: NameSet,
 }
 
 impl TypeNames {
@@ -25,7 +26,7 @@ impl TypeNames {
     {
         TypeNames {
             unqualified: Map::new(alloc),
-            qualified: Set::new(alloc),
+            qualified: NameSet::none(alloc),
         }
     }
 
@@ -54,7 +55,7 @@ impl TypeNames {
             self.unqualified.put(id, loc)?;
             Ok(())
         } else {
-            self.qualified.insert(name.dup(alloc)?)?;
+            self.qualified.insert(alloc, name.dup(alloc)?)?;
             Ok(())
         }
     }

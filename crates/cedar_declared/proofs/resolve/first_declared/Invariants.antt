@@ -3,7 +3,6 @@ use Rattle.std.proofs.Common.{◌≡◌}
 use Rattle.std.specs.List.{find}
 use Rattle.std.specs.Vec.Iter.{into_iter_items}
 use Rattle.cedar_names.specs.Components.{components}
-use Rattle.cedar_text.specs.Lists.{elements}
 use Rattle.cedar_declared.specs.Held.{names_of}
 use Rattle.cedar_declared.specs.Names.{is_declared}
 use Rattle.cedar_declared.proofs.resolve.first_declared.Given as goal
@@ -12,4 +11,4 @@ use Rattle.cedar_declared.proofs.resolve.first_declared.Given as goal
 abbrev pub invariant-loop-name : goal.invariant-loop-name
 invariant-loop-name l =
     find (λ p. is_declared (names_of l.fn.all_defs) l.fn.kind (components p)) (into_iter_items l.name-iterator)
-    ≡ find (λ p. is_declared (names_of l.fn.all_defs) l.fn.kind (components p)) (elements l.fn.names)
+    ≡ find (λ p. is_declared (names_of l.fn.all_defs) l.fn.kind (components p)) l.fn.names

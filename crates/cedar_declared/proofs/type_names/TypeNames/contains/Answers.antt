@@ -2,7 +2,7 @@
 use Rattle.std.proofs.Common.{sym, ap, ◌∙◌, is_some}
 use Rattle.cedar_data.specs.Maps.{get}
 use Rattle.cedar_declared.proofs.Looked.{kept_alone, kept_whole}
-use Rattle.cedar_declared.specs.TypeNames.{id_cmp}
+use Rattle.cedar_declared.specs.Basenames.{id_cmp}
 use Rattle.cedar_declared.proofs.type_names.TypeNames.contains.Goals as goal
 
 pub returns-then-is_unqualified : goal.returns-then-is_unqualified

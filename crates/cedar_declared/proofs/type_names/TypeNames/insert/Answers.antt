@@ -2,7 +2,7 @@
 use Rattle.std.proofs.Common.{sym, ap, ◌∙◌}
 use Rattle.std.specs.BTreeMap.{insert_entry}
 use Rattle.cedar_names.specs.Components.{basename_of}
-use Rattle.cedar_declared.specs.TypeNames.{id_cmp}
+use Rattle.cedar_declared.specs.Basenames.{id_cmp}
 use Rattle.cedar_declared.proofs.Looked.{with_alone}
 use Rattle.cedar_declared.proofs.type_names.TypeNames.insert.Goals as goal
 
