@@ -1,7 +1,8 @@
 // SPDX-License-Identifier: Apache-2.0
-ghost use Rattle.std.specs.Prelude.{◌≡◌};
+ghost use Rattle.std.specs.Prelude.{◌≡◌, ◌≤◌, length};
 ghost use Rattle.serde_json.specs.View.{view, items_view, members_view};
 ghost use Rattle.cedar_json_counts.specs.Counts as counts;
+ghost use Rattle.cedar_json_counts.specs.declared.counting.Within.TheVariants as within;
 ghost use Rattle.cedar_json_counts.specs.Counts.{capped, members_in, members_in_items, members_in_members};
 
 use serde_json::{Map, Value};
@@ -17,35 +18,32 @@ pub enum Within {
     Escape,
 }
 
-/// Where the byte after this one stands.
-fn after(place: Within, byte: u8) -> Within
-    ensures { result ≡ counts.after place byte }
+/// What stands behind a string literal, from what stands behind the quote that opens it.
+fn behind_literal(bytes: &[u8]) -> &[u8]
+    ensures colons { counts.colons_from within.Plain result.now
+        ≡ counts.colons_from within.Literal bytes.now }
+    ensures shorter { length result.now ≤ length bytes.now }
 {
-    match place {
-        Within::Plain => if byte == b'"' {
-            Within::Literal
-        } else {
-            Within::Plain
-        },
-        Within::Literal => if byte == b'"' {
-            Within::Plain
-        } else if byte == b'\\' {
-            Within::Escape
-        } else {
-            Within::Literal
-        },
-        Within::Escape => Within::Literal,
+    let mut rest = bytes;
+    while let Some((byte, after)) = rest.split_first() {
+        match *byte {
+            b'"' => return after,
+            b'\\' => rest = behind_escape(after),
+            _ => rest = after,
+        }
     }
+    rest
 }
 
-/// One for a colon outside string literals, else nothing.
-fn colon(place: Within, byte: u8) -> u64
-    ensures { result ≡ counts.colon place byte }
+/// What stands behind the first byte of an escape, from what stands behind its backslash.
+fn behind_escape(bytes: &[u8]) -> &[u8]
+    ensures colons { counts.colons_from within.Literal result.now
+        ≡ counts.colons_from within.Escape bytes.now }
+    ensures shorter { length result.now ≤ length bytes.now }
 {
-    match place {
-        Within::Plain => if byte == b':' { 1 } else { 0 },
-        Within::Literal => 0,
-        Within::Escape => 0,
+    match bytes.split_first() {
+        Some((_, after)) => after,
+        None => bytes,
     }
 }
 
@@ -54,10 +52,16 @@ pub fn count_colons(text: &str) -> u64
     ensures { result ≡ capped (counts.colons text.now) }
 {
     let mut count = 0u64;
-    let mut place = Within::Plain;
-    for byte in text.as_bytes() {
-        count = count.saturating_add(colon(place, *byte));
-        place = after(place, *byte);
+    let mut rest = text.as_bytes();
+    while let Some((byte, after)) = rest.split_first() {
+        match *byte {
+            b'"' => rest = behind_literal(after),
+            b':' => {
+                count = count.saturating_add(1);
+                rest = after;
+            }
+            _ => rest = after,
+        }
     }
     count
 }
