@@ -4,4 +4,6 @@ pub mod CommonIdLemmas
 pub mod ItemLoops
 pub mod KeyLemmas
 pub mod MemberLoops
+pub mod NameLemmas
+pub mod PairLemmas
 pub mod TypeLemmas

@@ -1,7 +1,9 @@
 // SPDX-License-Identifier: Apache-2.0
-ghost use Rattle.std.specs.Prelude.{◌≡◌, [], ◌∷◌, codes, Some, None, IfOk};
+ghost use Rattle.std.specs.Prelude.{◌≡◌, ℕ, List, [], ◌∷◌, codes, bytes_eq, false, IsTrue, Some, None, IfOk};
+ghost use Rattle.std.specs.Option.{option_map};
 ghost use Rattle.cedar_text.specs.Failures.{IfRefused};
 ghost use Rattle.cedar_text.specs.Words.{has_word};
+ghost use Rattle.serde_json.specs.Find.{get};
 ghost use Rattle.serde_json.specs.View.{view, members_view};
 ghost use Rattle.cedar_json_types.specs.Faults as faults;
 ghost use Rattle.cedar_json_types.specs.Faults.{unknown_key, keys_fault};
@@ -130,6 +132,25 @@ fn shape_of(set: KeySet) -> JsonShape
     }
 }
 
+/// Whether an object has one key or two, and an object of this kind may have them. It takes no loop.
+fn has_few_known(members: &Map<String, Value>, set: KeySet) -> bool
+    ensures { IsTrue result → KeysWithin (keys.keys_of set) (members_view members.now.entries) }
+{
+    let Some((first, _)) = members.first_key_value() else {
+        return false;
+    };
+    if !takes(set, first.as_str()) {
+        return false;
+    }
+    if members.len() == 1 {
+        return true;
+    }
+    let Some((last, _)) = members.last_key_value() else {
+        return false;
+    };
+    members.len() == 2 && takes(set, last.as_str())
+}
+
 /// Refuses the first key that an object of this kind may not have.
 #[tactic(auto, using(crate::proofs::KeyLemmas::keys_within))]
 fn refuse_unknown(
@@ -154,6 +175,28 @@ fn refuse_unknown(
     Ok(())
 }
 
+/// As `refuse_unknown`. Mostly there are few keys.
+#[tactic(auto, using(crate::proofs::KeyLemmas::none_unknown))]
+fn check_members(
+    alloc: Global,
+    members: &Map<String, Value>,
+    set: KeySet,
+) -> Out<(), JsonDeserializationError>
+    ensures shape { IfOk result
+        (λ _. KeysWithin (keys.keys_of set) (members_view members.now.entries)) }
+    ensures clean { IfOk result
+        (λ _. unknown_key (keys.shape_of set) (keys.keys_of set) (members_view members.now.entries)
+        ≡ None) }
+    ensures refused { IfRefused result
+        (λ e. unknown_key (keys.shape_of set) (keys.keys_of set) (members_view members.now.entries)
+        ≡ Some e) }
+{
+    if has_few_known(members, set) {
+        return Ok(());
+    }
+    refuse_unknown(alloc, members, set)
+}
+
 /// Refuses what is no object, or has a key that an object of this kind may not have.
 pub fn check_keys(alloc: Global, value: &Value, set: KeySet) -> Out<(), JsonDeserializationError>
     ensures shape { IfOk result (λ _. Keyed (keys.keys_of set) (view value.now)) }
@@ -165,7 +208,7 @@ pub fn check_keys(alloc: Global, value: &Value, set: KeySet) -> Out<(), JsonDese
     let Some(members) = value.as_object() else {
         return wrong_type(alloc, value, JsonKind::Object);
     };
-    refuse_unknown(alloc, members, set)
+    check_members(alloc, members, set)
 }
 
 /// Refuses the key, where it is there.
@@ -185,4 +228,64 @@ pub fn refuse_key(
         return unknown(alloc, key, shape);
     }
     Ok(())
+}
+
+/// The member at the key. It is found soonest where no key stands before it.
+pub fn get_leading<'a>(value: &'a Value, key: &str) -> Option<&'a Value>
+    ensures { option_map (λ v. view v.now) result ≡ get key.now (view value.now) }
+{
+    if let Some(members) = value.as_object()
+        && let Some((first, member)) = members.first_key_value()
+        && first.as_str() == key
+    {
+        return Some(member);
+    }
+    value.get(key)
+}
+
+/// The member at the key. It is found soonest where no key stands behind it.
+pub fn get_trailing<'a>(value: &'a Value, key: &str) -> Option<&'a Value>
+    ensures { option_map (λ v. view v.now) result ≡ get key.now (view value.now) }
+{
+    if let Some(members) = value.as_object()
+        && let Some((last, member)) = members.last_key_value()
+        && last.as_str() == key
+    {
+        return Some(member);
+    }
+    value.get(key)
+}
+
+/// Whether the value is an object with two keys: this one, and behind it `type`.
+pub fn has_only(value: &Value, key: &str) -> bool
+    ensures { IsTrue result → (k : List ℕ) → bytes_eq k (codes "type") ≡ false
+        → bytes_eq k key.now ≡ false → get k (view value.now) ≡ None }
+{
+    let Some(members) = value.as_object() else {
+        return false;
+    };
+    if members.len() != 2 {
+        return false;
+    }
+    let Some((first, _)) = members.first_key_value() else {
+        return false;
+    };
+    let Some((last, _)) = members.last_key_value() else {
+        return false;
+    };
+    first.as_str() == key && last.as_str() == "type"
+}
+
+/// Whether the value is an object with the key `type` alone.
+pub fn has_type_alone(value: &Value) -> bool
+    ensures { IsTrue result → (k : List ℕ) → bytes_eq k (codes "type") ≡ false
+        → get k (view value.now) ≡ None }
+{
+    let Some(members) = value.as_object() else {
+        return false;
+    };
+    let Some((first, _)) = members.first_key_value() else {
+        return false;
+    };
+    members.len() == 1 && first.as_str() == "type"
 }

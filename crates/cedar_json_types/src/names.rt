@@ -1,8 +1,9 @@
 // SPDX-License-Identifier: Apache-2.0
-ghost use Rattle.std.specs.Prelude.{◌≡◌, Some, None, IfOk};
+ghost use Rattle.std.specs.Prelude.{◌≡◌, false, IsTrue, MatchOption, Some, None, IfOk};
 ghost use Rattle.cedar_text.specs.Failures.{IfRefused};
 ghost use Rattle.serde_json.specs.View.{view};
-ghost use Rattle.cedar_names.specs.Identifiers.{unreserved_word};
+ghost use Rattle.cedar_text.specs.Words.{is_id, is_unreserved_id};
+ghost use Rattle.cedar_names.specs.Identifiers.{id_word, unreserved_word};
 ghost use Rattle.cedar_json_types.specs.CommonIds.{IdentifiesCommon, IsCommon, common_id_fault, reserved_fault};
 ghost use Rattle.cedar_json_types.specs.Faults as faults;
 ghost use Rattle.cedar_json_types.specs.Faults.{in_text, any_text};
@@ -12,10 +13,10 @@ ghost use Rattle.cedar_json_fault.specs.declared.json_fault.NameKind.TheVariants
 
 use crate::reading::{JsonKey, ReadPart};
 use crate::refusing::{refuse, wrong_type};
-use cedar_data::{Failure, Out, Text};
+use cedar_data::{Failure, Mem, Out, Text};
 use cedar_json_fault::{JsonDeserializationError, JsonFault, JsonKind, NameKind};
-use cedar_names::{AnyId, UnreservedId};
-use cedar_text::NameFault;
+use cedar_names::{AnyId, Id, UnreservedId};
+use cedar_text::{NameFault, is_word};
 use cedar_written::{CommonTypeId, RawName};
 use serde_json::Value;
 use std::alloc::Global;
@@ -59,7 +60,30 @@ fn bad_name<T>(
     refuse(alloc, JsonFault::InvalidName { what, text, fault })
 }
 
-/// The reference of this kind that the text is.
+/// Whether the text is a word that begins with a capital letter, as no reserved word does.
+fn is_capitalized_word(text: &str) -> bool
+    ensures { IsTrue result → IsTrue (is_unreserved_id text.now) }
+{
+    match text.as_bytes().first() {
+        Some(byte) => byte.is_ascii_uppercase() && is_word(text),
+        None => false,
+    }
+}
+
+/// The identifier that the text is, if it is one.
+fn id_if_one(alloc: Global, text: &str) -> Mem<Option<Id>>
+    ensures { IfOk result (λ id. MatchOption id (is_id text.now ≡ false)
+        (λ id. (id_word id ≡ text.now) × IsTrue (is_id text.now))) }
+{
+    if is_capitalized_word(text) {
+        let id = UnreservedId::known(alloc, text)?;
+        return Ok(Some(id.into_id()));
+    }
+    Id::new(alloc, text)
+}
+
+/// The reference of this kind that the text is. Mostly it is one identifier.
+#[tactic(auto, using(crate::proofs::NameLemmas::clean_id))]
 pub fn reference_of(
     alloc: Global,
     text: &str,
@@ -69,6 +93,9 @@ pub fn reference_of(
     ensures clean { IfOk result (λ _. reference_fault what text.now ≡ None) }
     ensures refused { IfRefused result (λ e. reference_fault what text.now ≡ Some e) }
 {
+    if let Some(id) = id_if_one(alloc, text)? {
+        return Ok(RawName::new(alloc, id, None));
+    }
     match RawName::from_normalized_str(alloc, text) {
         Ok(name) => Ok(name),
         Err(Failure::NoMemory) => Err(Failure::NoMemory),
@@ -110,6 +137,10 @@ fn id_of(alloc: Global, text: &str, what: NameKind) -> Out<UnreservedId, JsonDes
     ensures clean { IfOk result (λ _. id_fault what text.now ≡ None) }
     ensures refused { IfRefused result (λ e. id_fault what text.now ≡ Some e) }
 {
+    if is_capitalized_word(text) {
+        let id = UnreservedId::known(alloc, text)?;
+        return Ok(id);
+    }
     match UnreservedId::from_normalized_str(alloc, text) {
         Ok(id) => Ok(id),
         Err(Failure::NoMemory) => Err(Failure::NoMemory),

@@ -18,8 +18,10 @@ ghost use Rattle.cedar_json_fault.specs.declared.json_fault.JsonShape.TheVariant
 ghost use Rattle.std.specs.Cmp.Lexicographic.{slice_cmp};
 ghost use Rattle.std.specs.Ordering.{nat_cmp};
 
-use crate::fields::{needed, unless_absent};
-use crate::keyed::{KeySet, check_keys, refuse_key};
+use crate::fields::unless_absent;
+use crate::keyed::{
+    KeySet, check_keys, get_leading, get_trailing, has_only, has_type_alone, refuse_key,
+};
 use crate::names::{read_id, read_reference, reference_of};
 use crate::reading::ReadPart;
 use crate::refusing::{missing, refuse, under, wrong_type};
@@ -52,7 +54,7 @@ pub fn flag_at(
 }
 
 /// Refuses the first key of a type that is there and that a word with no key of its own does not take.
-fn check_plain(alloc: Global, value: &Value) -> Out<(), JsonDeserializationError>
+fn refuse_not_plain(alloc: Global, value: &Value) -> Out<(), JsonDeserializationError>
     ensures shape { IfOk result (λ _. Lacks not_plain (view value.now)) }
     ensures clean { IfOk result (λ _. excess_of shape.NoFields not_plain (view value.now) ≡ None) }
     ensures refused { IfRefused result (λ e. excess_of shape.NoFields not_plain (view value.now)
@@ -65,8 +67,21 @@ fn check_plain(alloc: Global, value: &Value) -> Out<(), JsonDeserializationError
     Ok(())
 }
 
-/// The same for `Set`.
-fn check_set(alloc: Global, value: &Value) -> Out<(), JsonDeserializationError>
+/// As `refuse_not_plain`. Mostly `type` is the only key.
+fn check_plain(alloc: Global, value: &Value) -> Out<(), JsonDeserializationError>
+    ensures shape { IfOk result (λ _. Lacks not_plain (view value.now)) }
+    ensures clean { IfOk result (λ _. excess_of shape.NoFields not_plain (view value.now) ≡ None) }
+    ensures refused { IfRefused result (λ e. excess_of shape.NoFields not_plain (view value.now)
+        ≡ Some e) }
+{
+    if has_type_alone(value) {
+        return Ok(());
+    }
+    refuse_not_plain(alloc, value)
+}
+
+/// Refuses the first key of a type that is there and that `Set` does not take.
+fn refuse_not_set(alloc: Global, value: &Value) -> Out<(), JsonDeserializationError>
     ensures shape { IfOk result (λ _. Lacks not_set (view value.now)) }
     ensures clean { IfOk result (λ _. excess_of shape.SetType not_set (view value.now) ≡ None) }
     ensures refused { IfRefused result (λ e. excess_of shape.SetType not_set (view value.now)
@@ -78,8 +93,21 @@ fn check_set(alloc: Global, value: &Value) -> Out<(), JsonDeserializationError>
     Ok(())
 }
 
-/// The same for `Record`.
-fn check_record(alloc: Global, value: &Value) -> Out<(), JsonDeserializationError>
+/// As `refuse_not_set`. Mostly `element` is the only other key.
+fn check_set(alloc: Global, value: &Value) -> Out<(), JsonDeserializationError>
+    ensures shape { IfOk result (λ _. Lacks not_set (view value.now)) }
+    ensures clean { IfOk result (λ _. excess_of shape.SetType not_set (view value.now) ≡ None) }
+    ensures refused { IfRefused result (λ e. excess_of shape.SetType not_set (view value.now)
+        ≡ Some e) }
+{
+    if has_only(value, "element") {
+        return Ok(());
+    }
+    refuse_not_set(alloc, value)
+}
+
+/// Refuses the first key of a type that is there and that `Record` does not take.
+fn refuse_not_record(alloc: Global, value: &Value) -> Out<(), JsonDeserializationError>
     ensures shape { IfOk result (λ _. Lacks not_record (view value.now)) }
     ensures clean { IfOk result (λ _. excess_of shape.RecordType not_record (view value.now)
         ≡ None) }
@@ -91,8 +119,22 @@ fn check_record(alloc: Global, value: &Value) -> Out<(), JsonDeserializationErro
     Ok(())
 }
 
-/// The same for the words with a name.
-fn check_named(alloc: Global, value: &Value) -> Out<(), JsonDeserializationError>
+/// As `refuse_not_record`. Mostly `attributes` is the only other key.
+fn check_record(alloc: Global, value: &Value) -> Out<(), JsonDeserializationError>
+    ensures shape { IfOk result (λ _. Lacks not_record (view value.now)) }
+    ensures clean { IfOk result (λ _. excess_of shape.RecordType not_record (view value.now)
+        ≡ None) }
+    ensures refused { IfRefused result (λ e. excess_of shape.RecordType not_record (view value.now)
+        ≡ Some e) }
+{
+    if has_only(value, "attributes") {
+        return Ok(());
+    }
+    refuse_not_record(alloc, value)
+}
+
+/// Refuses the first key of a type that is there and that the words with a name do not take.
+fn refuse_not_named(alloc: Global, value: &Value) -> Out<(), JsonDeserializationError>
     ensures shape { IfOk result (λ _. Lacks not_named (view value.now)) }
     ensures clean { IfOk result (λ _. excess_of shape.NamedType not_named (view value.now) ≡ None) }
     ensures refused { IfRefused result (λ e. excess_of shape.NamedType not_named (view value.now)
@@ -104,6 +146,19 @@ fn check_named(alloc: Global, value: &Value) -> Out<(), JsonDeserializationError
     Ok(())
 }
 
+/// As `refuse_not_named`. Mostly `name` is the only other key.
+fn check_named(alloc: Global, value: &Value) -> Out<(), JsonDeserializationError>
+    ensures shape { IfOk result (λ _. Lacks not_named (view value.now)) }
+    ensures clean { IfOk result (λ _. excess_of shape.NamedType not_named (view value.now) ≡ None) }
+    ensures refused { IfRefused result (λ e. excess_of shape.NamedType not_named (view value.now)
+        ≡ Some e) }
+{
+    if has_only(value, "name") {
+        return Ok(());
+    }
+    refuse_not_named(alloc, value)
+}
+
 /// The reference at the key `name`, of a type with no other key of its own.
 fn name_at(alloc: Global, value: &Value, what: NameKind) -> Out<RawName, JsonDeserializationError>
     ensures shape { IfOk result (λ n. At (codes "name") IsName (view value.now) n) }
@@ -112,7 +167,7 @@ fn name_at(alloc: Global, value: &Value, what: NameKind) -> Out<RawName, JsonDes
     ensures refused { IfRefused result
         (λ e. needs (codes "name") (in_text (reference_fault what)) (view value.now) ≡ Some e) }
 {
-    let Some(name) = value.get("name") else {
+    let Some(name) = get_leading(value, "name") else {
         return missing(alloc, "name");
     };
     under(alloc, "name", read_reference(alloc, name, what))
@@ -128,7 +183,7 @@ fn extension_at(alloc: Global, value: &Value) -> Out<UnreservedId, JsonDeseriali
         (λ e. needs (codes "name") (in_text (parts.id_fault what.ExtensionType)) (view value.now)
         ≡ Some e) }
 {
-    let Some(name) = value.get("name") else {
+    let Some(name) = get_leading(value, "name") else {
         return missing(alloc, "name");
     };
     under(alloc, "name", read_id(alloc, name, NameKind::ExtensionType))
@@ -136,8 +191,12 @@ fn extension_at(alloc: Global, value: &Value) -> Out<UnreservedId, JsonDeseriali
 
 /// The word of an object that has no key that types of its place don't have.
 #[tactic(auto, using(crate::proofs::TypeLemmas::head_made))]
-fn read_word(alloc: Global, value: &Value, set: KeySet) -> Out<Text, JsonDeserializationError>
-    ensures shape { IfOk result (λ w. Head set (view value.now) w) }
+fn read_word<'a>(
+    alloc: Global,
+    value: &'a Value,
+    set: KeySet,
+) -> Out<&'a str, JsonDeserializationError>
+    ensures shape { IfOk result (λ w. Head set (view value.now) w.now) }
     ensures clean { IfOk result (λ _. head_fault set (view value.now) ≡ None) }
     ensures refused { IfRefused result (λ e. head_fault set (view value.now) ≡ Some e) }
 {
@@ -146,14 +205,20 @@ fn read_word(alloc: Global, value: &Value, set: KeySet) -> Out<Text, JsonDeseria
 }
 
 /// The text at the key `type`.
-fn text_at(alloc: Global, value: &Value) -> Out<Text, JsonDeserializationError>
-    ensures shape { IfOk result (λ t. get (codes "type") (view value.now) ≡ Some (string t)) }
+fn text_at<'a>(alloc: Global, value: &'a Value) -> Out<&'a str, JsonDeserializationError>
+    ensures shape { IfOk result (λ t. get (codes "type") (view value.now) ≡ Some (string t.now)) }
     ensures clean { IfOk result (λ _. needs (codes "type") (in_text any_text) (view value.now)
         ≡ None) }
     ensures refused { IfRefused result
         (λ e. needs (codes "type") (in_text any_text) (view value.now) ≡ Some e) }
 {
-    needed(alloc, value, "type")
+    let Some(member) = get_trailing(value, "type") else {
+        return missing(alloc, "type");
+    };
+    match member.as_str() {
+        Some(text) => Ok(text),
+        None => under(alloc, "type", wrong_type(alloc, member, JsonKind::String)),
+    }
 }
 
 /// The type that the value has the shape of, where `left` sets and records may nest.
@@ -170,14 +235,14 @@ fn read_type(
     ensures refused { IfRefused result (λ e. type_fault left set (view value.now) ≡ Some e) }
 {
     let text = read_word(alloc, value, set)?;
-    let word = word_of(text.as_str());
+    let word = word_of(text);
     match word {
         TypeWord::Other => {
             check_plain(alloc, value)?;
             let type_name = under(
                 alloc,
                 "type",
-                reference_of(alloc, text.as_str(), NameKind::CommonType),
+                reference_of(alloc, text, NameKind::CommonType),
             )?;
             Ok(SchemaType::CommonTypeRef {
                 type_name,
@@ -322,7 +387,7 @@ fn read_element(
     ensures refused { IfRefused result
         (λ e. needs (codes "element") (part_fault left set.Type) (view value.now) ≡ Some e) }
 {
-    let Some(element) = value.get("element") else {
+    let Some(element) = get_leading(value, "element") else {
         return missing(alloc, "element");
     };
     under(
@@ -350,7 +415,7 @@ fn attributes_at(
         (λ e. needs (codes "attributes") (attributes_fault (part_fault left set.Attribute))
         (view value.now) ≡ Some e) }
 {
-    let Some(attributes) = value.get("attributes") else {
+    let Some(attributes) = get_leading(value, "attributes") else {
         return missing(alloc, "attributes");
     };
     under(
