@@ -7,7 +7,7 @@ ghost use Rattle.cedar_print.specs.Pieces.{bracketed, comma, following, named, q
 
 use crate::quoted::Quoted;
 use cedar_names::{Items, NonEmpty, Text};
-use std::fmt;
+use std::fmt::{self, Display};
 
 /// Writes the items in brackets, with `, ` between them.
 pub fn write_list<T: fmt::Display, W: fmt::Write>(
@@ -17,9 +17,9 @@ pub fn write_list<T: fmt::Display, W: fmt::Write>(
     ensures { DisplaysOnOk W.write_str_gives f.old result
         (text_of T.output (bracketed named items.now)) f.new }
 {
-    write!(f, "[")?;
+    f.write_str("[")?;
     write_separated(items.as_slice(), f)?;
-    write!(f, "]")
+    f.write_str("]")
 }
 
 /// Writes the items with `, ` between them.
@@ -45,7 +45,7 @@ pub fn write_item<T: fmt::Display, W: fmt::Write>(
     ensures { DisplaysOnOk W.write_str_gives f.old result
         (text_of T.output (named first.now)) f.new }
 {
-    write!(f, "{first}")
+    first.fmt(f)
 }
 
 /// Writes each item behind `, `.
@@ -79,9 +79,9 @@ pub fn write_quoted_list<W: fmt::Write>(
     ensures { DisplaysOnOk W.write_str_gives f.old result
         (text_of nameless (bracketed quoted_alone (elements texts.now))) f.new }
 {
-    write!(f, "[")?;
+    f.write_str("[")?;
     write_quoted_texts(texts, f)?;
-    write!(f, "]")
+    f.write_str("]")
 }
 
 /// Writes the texts, each quoted, with `, ` between them.

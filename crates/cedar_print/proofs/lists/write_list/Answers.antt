@@ -8,8 +8,8 @@ use Rattle.cedar_print.proofs.lists.write_list.Goals as goal
 
 pub returns : goal.returns
 returns g c =
-    Shows-three g.W.Write.write_str_gives g.T.Display.output c.args.f.now c.write.new.self c.write_separated.new.f c.write-2.new.self c.write-2.result
+    Shows-three g.W.Write.write_str_gives g.T.Display.output c.args.f.now c.write_str.new.self c.write_separated.new.f c.write_str-2.new.self c.write_str-2.result
     (mark (codes "[") ∷ []) (separated comma named c.args.items.now) (mark (codes "]") ∷ [])
-    c.in_ok-write.ensures.writes
-    (subst (λ ts. Shows g.W.Write.write_str_gives g.T.Display.output c.write.new.self (Ok tt) (separated comma named ts) c.write_separated.new.f) c.as_slice.ensures c.in_ok-write_separated.ensures)
-    c.write-2.ensures.writes
+    c.in_ok-write_str.ensures.writes
+    (subst (λ ts. Shows g.W.Write.write_str_gives g.T.Display.output c.write_str.new.self (Ok tt) (separated comma named ts) c.write_separated.new.f) c.as_slice.ensures c.in_ok-write_separated.ensures)
+    c.write_str-2.ensures.writes

@@ -9,6 +9,6 @@ use Rattle.cedar_print.proofs.lists.write_quoted_list.Goals as goal
 
 pub returns : goal.returns
 returns g c =
-    Shows-three g.W.Write.write_str_gives nameless c.args.f.now c.write.new.self c.write_quoted_texts.new.f c.write-2.new.self c.write-2.result
+    Shows-three g.W.Write.write_str_gives nameless c.args.f.now c.write_str.new.self c.write_quoted_texts.new.f c.write_str-2.new.self c.write_str-2.result
     (mark (codes "[") ∷ []) (separated comma quoted_alone (elements c.args.texts.now)) (mark (codes "]") ∷ [])
-    c.in_ok-write.ensures.writes c.in_ok-write_quoted_texts.ensures c.write-2.ensures.writes
+    c.in_ok-write_str.ensures.writes c.in_ok-write_quoted_texts.ensures c.write_str-2.ensures.writes
