@@ -32,7 +32,7 @@ fn write_uid_type<N: fmt::Display, W: fmt::Write>(
         (text_of N.output (print_uid_type ty.now)) f.new }
 {
     match ty {
-        None => write!(f, "Action"),
+        None => f.write_str("Action"),
         Some(ty) => write_item(ty, f),
     }
 }

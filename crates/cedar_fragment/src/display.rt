@@ -56,7 +56,7 @@ fn write_choices<W: fmt::Write>(choices: &NonEmpty<Text>, f: &mut fmt::Formatter
     ensures { DisplaysOnOk W.write_str_gives f.old result
         (text_of nameless (print_choices choices.now)) f.new }
 {
-    write!(f, " enum ")?;
+    f.write_str(" enum ")?;
     write_quoted_list(choices, f)
 }
 
@@ -82,7 +82,7 @@ fn write_given_parents<T: fmt::Display, W: fmt::Write>(
     ensures { DisplaysOnOk W.write_str_gives f.old result
         (text_of T.output (parents_printed named parents.now)) f.new }
 {
-    write!(f, " in ")?;
+    f.write_str(" in ")?;
     write_list(parents, f)
 }
 
@@ -108,7 +108,7 @@ fn write_shape<N: fmt::Display, W: fmt::Write>(
     ensures { DisplaysOnOk W.write_str_gives f.old result
         (text_of N.output (shape_printed shape.now)) f.new }
 {
-    write!(f, " = ")?;
+    f.write_str(" = ")?;
     shape.fmt(f)
 }
 
@@ -134,7 +134,7 @@ fn write_tag_type<N: fmt::Display, W: fmt::Write>(
     ensures { DisplaysOnOk W.write_str_gives f.old result
         (text_of N.output (tags_printed ty.now)) f.new }
 {
-    write!(f, " tags ")?;
+    f.write_str(" tags ")?;
     ty.fmt(f)
 }
 
@@ -174,9 +174,9 @@ fn write_applies<N: fmt::Display, W: fmt::Write>(
     ensures { DisplaysOnOk W.write_str_gives f.old result
         (text_of N.output (print_applies spec.now)) f.new }
 {
-    write!(f, " appliesTo {{\n  principal: ")?;
+    f.write_str(" appliesTo {\n  principal: ")?;
     write_list(&spec.principal_types, f)?;
-    write!(f, ",\n  resource: ")?;
+    f.write_str(",\n  resource: ")?;
     write_list(&spec.resource_types, f)?;
     write_context(&spec.context, f)
 }
@@ -189,7 +189,7 @@ fn write_context<N: fmt::Display, W: fmt::Write>(
     ensures { DisplaysOnOk W.write_str_gives f.old result
         (text_of N.output (print_context context.now)) f.new }
 {
-    write!(f, ",\n  context: ")?;
+    f.write_str(",\n  context: ")?;
     context.fmt(f)?;
-    write!(f, "\n}}")
+    f.write_str("\n}")
 }

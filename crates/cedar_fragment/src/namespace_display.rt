@@ -63,7 +63,7 @@ fn write_named<N: RefName + fmt::Display, W: fmt::Write>(
     write_annotations(&definition.annotations, f)?;
     write_namespace_head(path, f)?;
     definition.fmt(f)?;
-    write!(f, "}}\n")
+    f.write_str("}\n")
 }
 
 /// Writes the line that opens a namespace.
@@ -101,7 +101,7 @@ fn write_common_type<N: fmt::Display, W: fmt::Write>(
     write_annotations(&common.annotations, f)?;
     write_common_head(id, f)?;
     common.ty.fmt(f)?;
-    write!(f, ";\n")
+    f.write_str(";\n")
 }
 
 /// Writes what stands before the type that a common type is.
@@ -109,7 +109,9 @@ fn write_common_head<W: fmt::Write>(id: &CommonTypeId, f: &mut fmt::Formatter<W>
     ensures { DisplaysOnOk W.write_str_gives f.old result
         (text_of nameless (common_head id.now)) f.new }
 {
-    write!(f, "type {id} = ")
+    f.write_str("type ")?;
+    f.write_str(id.as_ref().as_ref())?;
+    f.write_str(" = ")
 }
 
 /// Writes the entity types, in order.
@@ -139,7 +141,7 @@ fn write_entity_type<N: fmt::Display, W: fmt::Write>(
     write_annotations(&entity.annotations, f)?;
     write_entity_head(id, f)?;
     entity.fmt(f)?;
-    write!(f, ";\n")
+    f.write_str(";\n")
 }
 
 /// Writes the name of an entity type.
@@ -147,7 +149,8 @@ fn write_entity_head<W: fmt::Write>(id: &UnreservedId, f: &mut fmt::Formatter<W>
     ensures { DisplaysOnOk W.write_str_gives f.old result
         (text_of nameless (entity_head id.now)) f.new }
 {
-    write!(f, "entity {id}")
+    f.write_str("entity ")?;
+    f.write_str(id.as_ref())
 }
 
 /// Writes the actions, in order.
@@ -177,7 +180,7 @@ fn write_action<N: RefName + fmt::Display, W: fmt::Write>(
     write_annotations(&action.annotations, f)?;
     write_action_head(id, f)?;
     action.fmt(f)?;
-    write!(f, ";\n")
+    f.write_str(";\n")
 }
 
 /// Writes the id of an action.
@@ -185,6 +188,6 @@ fn write_action_head<W: fmt::Write>(id: &Text, f: &mut fmt::Formatter<W>) -> fmt
     ensures { DisplaysOnOk W.write_str_gives f.old result
         (text_of nameless (action_head id.now)) f.new }
 {
-    let id = Quoted(id);
-    write!(f, "action {id}")
+    f.write_str("action ")?;
+    Quoted(id).fmt(f)
 }

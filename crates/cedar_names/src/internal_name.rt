@@ -308,8 +308,7 @@ impl fmt::Display for InternalName {
         for id in self.namespace.as_slice() {
             write!(f, "{id}::")?;
         }
-        let basename = &self.basename;
-        write!(f, "{basename}")
+        f.write_str(self.basename.as_ref())
     }
 }
 

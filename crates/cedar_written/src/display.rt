@@ -29,9 +29,9 @@ impl<N: fmt::Display> fmt::Display for TypeVariant<N> {
     #[cycle(show)]
     fn fmt<W: fmt::Write>(&self, f: &mut fmt::Formatter<W>) -> fmt::Result {
         match self {
-            TypeVariant::String => write!(f, "__cedar::String"),
-            TypeVariant::Long => write!(f, "__cedar::Long"),
-            TypeVariant::Boolean => write!(f, "__cedar::Bool"),
+            TypeVariant::String => f.write_str("__cedar::String"),
+            TypeVariant::Long => f.write_str("__cedar::Long"),
+            TypeVariant::Boolean => f.write_str("__cedar::Bool"),
             TypeVariant::Set { element } => write_set(element.get(), f),
             TypeVariant::Record(fields) => fields.fmt(f),
             TypeVariant::Entity { name } => write_item(name, f),
@@ -68,14 +68,14 @@ fn write_set<N: fmt::Display, W: fmt::Write>(
 fn write_set_head<W: fmt::Write>(f: &mut fmt::Formatter<W>) -> fmt::Result
     ensures { DisplaysOnOk W.write_str_gives f.old result (text_of nameless set_head) f.new }
 {
-    write!(f, "Set < ")
+    f.write_str("Set < ")
 }
 
 /// Writes what stands behind it.
 fn write_set_end<W: fmt::Write>(f: &mut fmt::Formatter<W>) -> fmt::Result
     ensures { DisplaysOnOk W.write_str_gives f.old result (text_of nameless set_end) f.new }
 {
-    write!(f, " >")
+    f.write_str(" >")
 }
 
 /// Writes the record type: its attributes in braces.
@@ -87,9 +87,9 @@ fn write_record<N: fmt::Display, W: fmt::Write>(
     ensures { DisplaysOnOk W.write_str_gives f.old result
         (text_of N.output (print_record fields.now)) f.new }
 {
-    write!(f, "{{")?;
+    f.write_str("{")?;
     write_attributes(&fields.attributes, f)?;
-    write!(f, "}}")
+    f.write_str("}")
 }
 
 /// Writes the attributes, with a comma and the end of a line between them.
@@ -120,7 +120,7 @@ fn write_separator<W: fmt::Write>(is_first: bool, f: &mut fmt::Formatter<W>) -> 
     if is_first {
         return Ok(());
     }
-    write!(f, ", \n")
+    f.write_str(", \n")
 }
 
 /// Writes an attribute with its name: its annotations, its name, whether it is optional, its type.

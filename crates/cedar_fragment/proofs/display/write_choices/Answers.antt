@@ -9,6 +9,6 @@ use Rattle.cedar_fragment.proofs.display.write_choices.Goals as goal
 
 pub returns : goal.returns
 returns g c =
-    Shows-two g.W.Write.write_str_gives nameless c.args.f.now c.write.new.self c.write_quoted_list.new.f c.write_quoted_list.result
+    Shows-two g.W.Write.write_str_gives nameless c.args.f.now c.write_str.new.self c.write_quoted_list.new.f c.write_quoted_list.result
     (space ∷ word (codes "enum") ∷ space ∷ []) (bracketed quoted_alone (elements c.args.choices.now))
-    c.in_ok-write.ensures.writes c.write_quoted_list.ensures
+    c.in_ok-write_str.ensures.writes c.write_quoted_list.ensures

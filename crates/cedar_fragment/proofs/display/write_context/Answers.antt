@@ -8,6 +8,6 @@ use Rattle.cedar_fragment.proofs.display.write_context.Goals as goal
 
 pub returns : goal.returns
 returns g c =
-    Shows-three g.W.Write.write_str_gives g.N.Display.output c.args.f.now c.write.new.self c.fmt.new.f c.write-2.new.self c.write-2.result
+    Shows-three g.W.Write.write_str_gives g.N.Display.output c.args.f.now c.write_str.new.self c.fmt.new.f c.write_str-2.new.self c.write_str-2.result
     (mark (codes ",") ∷ indented ∷ word (codes "context") ∷ mark (codes ":") ∷ space ∷ []) (print_shape c.args.context.now) (line_end ∷ mark (codes "}") ∷ [])
-    c.in_ok-write.ensures.writes c.in_ok-fmt.ensures.writes c.write-2.ensures.writes
+    c.in_ok-write_str.ensures.writes c.in_ok-fmt.ensures.writes c.write_str-2.ensures.writes

@@ -9,7 +9,7 @@ use Rattle.cedar_fragment.proofs.namespace_display.write_entity_type.Goals as go
 
 pub returns : goal.returns
 returns g c =
-    Shows-four g.W.Write.write_str_gives g.N.Display.output c.args.f.now c.write_annotations.new.f c.write_entity_head.new.f c.fmt.new.f c.write.new.self c.write.result
+    Shows-four g.W.Write.write_str_gives g.N.Display.output c.args.f.now c.write_annotations.new.f c.write_entity_head.new.f c.fmt.new.f c.write_str.new.self c.write_str.result
     (annotations_pieces c.args.entity.now.annotations) (entity_head c.args.id.now) (print_entity c.args.entity.now) closing
     (displays_on_ok_of_eq g.W.Write.write_str_gives c.args.f.now c.write_annotations.new.f (Ok tt) _ _ (text_of-annotations g.N.Display.output c.args.entity.now.annotations) c.in_ok-write_annotations.ensures)
-    c.in_ok-write_entity_head.ensures c.in_ok-fmt.ensures.writes c.write.ensures.writes
+    c.in_ok-write_entity_head.ensures c.in_ok-fmt.ensures.writes c.write_str.ensures.writes

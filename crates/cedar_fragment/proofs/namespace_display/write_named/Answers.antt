@@ -13,7 +13,7 @@ use Rattle.cedar_fragment.proofs.namespace_display.write_named.Goals as goal
 
 pub returns : goal.returns
 returns g c =
-    Shows-four g.W.Write.write_str_gives g.N.Display.output c.args.f.now c.write_annotations.new.f c.write_namespace_head.new.f c.fmt.new.f c.write.new.self c.write.result
+    Shows-four g.W.Write.write_str_gives g.N.Display.output c.args.f.now c.write_annotations.new.f c.write_namespace_head.new.f c.fmt.new.f c.write_str.new.self c.write_str.result
     (annotations_pieces c.args.definition.now.annotations) (namespace_head c.args.path.now) (print_namespace c.args.definition.now) (mark (codes "}") ∷ line_end ∷ [])
     (displays_on_ok_of_eq g.W.Write.write_str_gives c.args.f.now c.write_annotations.new.f (Ok tt) _ _ (text_of-annotations g.N.Display.output c.args.definition.now.annotations) c.in_ok-write_annotations.ensures)
-    (displays_on_ok_of_eq g.W.Write.write_str_gives c.write_annotations.new.f c.write_namespace_head.new.f (Ok tt) _ _ (head-shown g.N.Display.output c.args.path.now) c.in_ok-write_namespace_head.ensures) c.in_ok-fmt.ensures.writes c.write.ensures.writes
+    (displays_on_ok_of_eq g.W.Write.write_str_gives c.write_annotations.new.f c.write_namespace_head.new.f (Ok tt) _ _ (head-shown g.N.Display.output c.args.path.now) c.in_ok-write_namespace_head.ensures) c.in_ok-fmt.ensures.writes c.write_str.ensures.writes

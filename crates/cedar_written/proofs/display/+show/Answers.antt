@@ -22,10 +22,10 @@ write_set-returns g t c =
 
 pub write_record-returns : goal.write_record-returns
 write_record-returns g t c =
-    subst (λ ps. Shows g.W.Write.write_str_gives g.N.Display.output c.args.f.now c.write-2.result ps c.write-2.new.self) (sym (print_record-is c.args.fields.now))
-    (Shows-three g.W.Write.write_str_gives g.N.Display.output c.args.f.now c.write.new.self c.write_attributes.new.f c.write-2.new.self c.write-2.result
+    subst (λ ps. Shows g.W.Write.write_str_gives g.N.Display.output c.args.f.now c.write_str-2.result ps c.write_str-2.new.self) (sym (print_record-is c.args.fields.now))
+    (Shows-three g.W.Write.write_str_gives g.N.Display.output c.args.f.now c.write_str.new.self c.write_attributes.new.f c.write_str-2.new.self c.write_str-2.result
     (mark (codes "{") ∷ []) (separated next_line with_name (map_values print_attribute (out-RecordType _ c.args.fields.now).attributes)) (mark (codes "}") ∷ [])
-    c.in_ok-write.ensures.writes c.in_ok-write_attributes.ensures c.write-2.ensures.writes)
+    c.in_ok-write_str.ensures.writes c.in_ok-write_attributes.ensures c.write_str-2.ensures.writes)
 
 pub write_attributes-loop-name-preserved : goal.write_attributes-loop-name-preserved
 write_attributes-loop-name-preserved g t c =
