@@ -38,15 +38,15 @@ pub fn is_word(s: &str) -> bool
 pub fn is_reserved_word(s: &str) -> bool
     ensures { result ≡ is_reserved_word s.now }
 {
-    s == "true"
-        || s == "false"
-        || s == "if"
-        || s == "then"
-        || s == "else"
-        || s == "in"
-        || s == "is"
-        || s == "like"
-        || s == "has"
+    match s.as_bytes().first() {
+        Some(b't') => s == "true" || s == "then",
+        Some(b'f') => s == "false",
+        Some(b'i') => s == "if" || s == "in" || s == "is",
+        Some(b'e') => s == "else",
+        Some(b'l') => s == "like",
+        Some(b'h') => s == "has",
+        _ => false,
+    }
 }
 
 /// Whether the text is the word `__cedar`.
