@@ -35,8 +35,8 @@ pub fn tokens(alloc: Global, text: &str) -> Out<Vec<Token>, NoToken>
         → MatchResult result (λ _. ⊥) (λ e. (e ≡ OutOfMemory)
         ⊎ (e ≡ RefusedWith (record { location = place }))) }
 {
-    // a token and what stands before it are seldom shorter than four bytes
-    let mut found = Vec::with_capacity(alloc, text.len() / 4)?;
+    // a token and what stands before it are seldom shorter than three bytes
+    let mut found = Vec::with_capacity(alloc, text.len() / 3)?;
     let mut rest = text;
     let mut at = 0;
     'pieces: loop {
