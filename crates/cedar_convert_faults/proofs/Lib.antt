@@ -1,4 +1,5 @@
 -- SPDX-License-Identifier: Apache-2.0
+pub mod Ascending
 mod ReadClauses
 pub mod FaultLaws
 pub mod FirstRepeats

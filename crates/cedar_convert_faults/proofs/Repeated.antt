@@ -27,7 +27,7 @@ last_step false false true here there more of_key of_word same new rest = refl
 last_step false false false here there more of_key of_word same new rest = rest new
 
 -- the place of a word, with a name behind that was not seen
-place_last : (seen : Names) (n : Node (List ℕ)) (word : List ℕ) → place_of seen n.node ≡ None → place_of (seen ++ n ∷ []) word ≡ cond (bytes_eq n.node word) (Some n.loc) (place_of seen word)
+pub place_last : (seen : Names) (n : Node (List ℕ)) (word : List ℕ) → place_of seen n.node ≡ None → place_of (seen ++ n ∷ []) word ≡ cond (bytes_eq n.node word) (Some n.loc) (place_of seen word)
 place_last [] n word new = refl
 place_last (k ∷ seen) n word new =
     last_step (bytes_eq k.node n.node) (bytes_eq n.node word) (bytes_eq k.node word) k.loc n.loc _ _ _ (λ e. ap (bytes_eq k.node) (sym ((bytes_eq-Decides n.node word).0 e))) new (place_last seen n word)

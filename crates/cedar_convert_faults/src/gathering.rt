@@ -21,8 +21,13 @@ pub struct Gathered {
 pub fn gather(alloc: Global, schema: Schema) -> Mem<Items<Gathered>>
     ensures { IfOk result (λ all. map gathered_tree all ≡ namespaces_of (schema_tree schema)) }
 {
+    // where a text was parsed each of these holds one declaration
+    let unnamed = schema
+        .iter()
+        .filter(|namespace| namespace.item.name.is_none())
+        .count();
     let mut all = Items::new(alloc);
-    let mut loose = Items::new(alloc);
+    let mut loose = Items::from_vec(Vec::with_capacity(alloc, unnamed)?);
     for namespace in schema.into_vec() {
         gather_one(&mut all, &mut loose, namespace)?;
     }

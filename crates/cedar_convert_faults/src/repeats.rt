@@ -1,5 +1,7 @@
 // SPDX-License-Identifier: Apache-2.0
-ghost use Rattle.std.specs.Prelude.{◌≡◌, IfOk};
+ghost use Rattle.std.specs.Prelude.{◌≡◌, ◌||◌, ◌&&◌, IsTrue, None, IfOk, length, nat_eq, nat_lt};
+ghost use Rattle.std.specs.Ordering.{is_lt};
+ghost use Rattle.cedar_names.specs.Order.{word_cmp};
 ghost use Rattle.cedar_convert_faults.specs.Repeats.{first_repeat, IsFirstOrNone};
 
 use cedar_data::{Dup, Items, Map, Mem, Text};
@@ -14,11 +16,42 @@ pub struct Repeat {
     pub second: Loc,
 }
 
+/// Whether a name is longer than another, or as long and behind it in the order of bytes.
+fn is_behind(name: &Text, other: &Text) -> bool
+    ensures { result ≡ (nat_lt (length other.now) (length name.now)
+        || (nat_eq (length other.now) (length name.now) && is_lt (word_cmp other.now name.now))) }
+{
+    let (len, other_len) = (name.as_str().len(), other.as_str().len());
+    other_len < len || (other_len == len && other < name)
+}
+
+/// Whether each name is longer than the one before it, or as long and behind that in the order of bytes. No name stands
+/// twice then.
+#[tactic(auto, using(crate::proofs::Ascending::ascending))]
+fn ascend(names: &Items<Node<Text>>) -> bool
+    ensures { IsTrue result → first_repeat names.now ≡ None }
+{
+    let Some((first, others)) = names.as_slice().split_first() else {
+        return true;
+    };
+    let mut last = &first.node;
+    for name in others {
+        if !is_behind(&name.node, last) {
+            return false;
+        }
+        last = &name.node;
+    }
+    true
+}
+
 /// The first name that stands a second time, if one does. It fails only for want of memory.
 #[tactic(auto, using(crate::proofs::Repeated::repeated))]
 pub fn first_repeat(alloc: Global, names: &Items<Node<Text>>) -> Mem<Option<Repeat>>
     ensures { IfOk result (λ repeat. repeat ≡ first_repeat names.now) }
 {
+    if ascend(names) {
+        return Ok(None);
+    }
     let mut places: Map<Text, Loc> = Map::new(alloc);
     for name in names.iter() {
         let word = name.node.dup(alloc)?;
