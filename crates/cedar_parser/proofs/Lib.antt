@@ -9,3 +9,4 @@ pub mod Braces
 pub mod Noting
 pub mod Items
 pub mod Endings
+mod Plain

@@ -153,7 +153,8 @@ impl<'s> Parser<'s> {
         ensures some { IfOk result (λ r. 0 < length r.0) }
         ensures shorter { OnOk result (length tokens.new.rest.now < length tokens.old.rest.now) }
     {
-        let mut apps = Items::new(self.alloc);
+        // Room for three: an action mostly has principals and resources, and at most a context besides.
+        let mut apps = Items::from_vec(Vec::with_capacity(self.alloc, 3)?);
         'apps: loop {
             let app = self.app(tokens)?;
             apps.push(app)?;

@@ -2,6 +2,7 @@
 ghost use Rattle.std.specs.Prelude.{◌≡◌, ◌<◌, length, Ok, IfOk, IfSome, IfNone, OnOk, option_map};
 ghost use Rattle.cedar_names.specs.Identifiers.{id_word};
 ghost use Rattle.std.specs.Option.{option_and_then};
+ghost use Rattle.std.specs.Str.{bytes_eq};
 ghost use Rattle.cedar_grammar.specs.Grammar.{literal_body, literal_value, text_of_body};
 ghost use Rattle.cedar_tree.specs.Meanings.{node_of};
 ghost use Rattle.cedar_grammar.specs.Reading.{accepted, expect, a_keyword, a_mark, an_ident, name_at};
@@ -27,6 +28,22 @@ pub struct Parser<'s> {
 #[derive(Drop)]
 pub struct Tokens<'t, 'a> {
     pub rest: &'t [Lexeme<'a>],
+}
+
+/// Whether a text is this word. The words of the grammar are short, so that they are compared byte by byte.
+fn is_same(text: &str, word: &str) -> bool
+    ensures { result ≡ bytes_eq text.now word.now }
+{
+    let (text, word) = (text.as_bytes(), word.as_bytes());
+    if text.len() != word.len() {
+        return false;
+    }
+    for at in 0..word.len() {
+        if text[at] != word[at] {
+            return false;
+        }
+    }
+    true
 }
 
 impl<'s> Parser<'s> {
@@ -58,7 +75,7 @@ impl<'s> Parser<'s> {
         ensures kept { IfNone result (tokens.new.rest.now ≡ tokens.old.rest.now) }
     {
         let rest = tokens.rest;
-        if rest.is_empty() || rest[0].kind != TokenKind::Word || rest[0].text != word {
+        if rest.is_empty() || rest[0].kind != TokenKind::Word || !is_same(rest[0].text, word) {
             return None;
         }
         tokens.rest = &rest[1..];
@@ -76,7 +93,7 @@ impl<'s> Parser<'s> {
         ensures kept { IfNone result (tokens.new.rest.now ≡ tokens.old.rest.now) }
     {
         let rest = tokens.rest;
-        if rest.is_empty() || rest[0].kind != TokenKind::Punct || rest[0].text != mark {
+        if rest.is_empty() || rest[0].kind != TokenKind::Punct || !is_same(rest[0].text, mark) {
             return None;
         }
         tokens.rest = &rest[1..];
@@ -159,6 +176,10 @@ impl<'s> Parser<'s> {
         let Some(body) = literal_body(text) else {
             return Ok(None);
         };
+        if !body.as_bytes().contains(&b'\\') {
+            let value = self.source.beside(self.alloc, body)?;
+            return Ok(Some(value));
+        }
         match unescape(self.alloc, body) {
             Ok(value) => {
                 let value = self.source.beside(self.alloc, value.as_str())?;

@@ -12,7 +12,7 @@ use Rattle.cedar_parser.proofs.tokens.Parser.app_list.Goals as goal
 pub returns-in_err-app-clause-read : goal.returns-in_err-app-clause-read
 returns-in_err-app-clause-read c n enough =
     let text = c.args.self.now.source.now in
-    let p = err_from_is_err_and c.from_residual.result c.from_residual.ensures.1 in
+    let p = err_from_is_err_and c.from_residual-in_err-app.result c.from_residual-in_err-app.ensures.1 in
     rw (p.1, p.2)
     (fault_along c.in_err-app.field-0.0 _ _
     (λ left e. brace_none (app_at (type_at n)) _ _ (tokens_of text c.apps.tokens.rest.now) (c.apps.invariant.is n enough) left e)
