@@ -1,22 +1,25 @@
 -- SPDX-License-Identifier: Apache-2.0
--- Names of which no builtin type has one.
-use Rattle.std.proofs.Common.{◌≡◌, ◌||◌, Bool, true, false, cond, List, [], ◌∷◌, ◌++◌, fold, map, flat_map, refl, sym, ap, ◌∙◌}
+-- Names of which no builtin type has one, and none is that of an entity type and of a common type.
+use Rattle.std.proofs.Common.{◌≡◌, ◌||◌, Bool, true, false, cond, bytes_eq, List, [], ◌∷◌, ◌++◌, fold, map, flat_map, Some, None, option_to_list, refl, sym, ap, ◌∙◌}
 use Rattle.std.specs.List.{list_any}
-use Rattle.std.specs.BTreeMap.{insert_entry}
+use Rattle.std.specs.BTreeMap.{insert_entry, is_at}
+use Rattle.std.specs.Cmp.Lexicographic.{texts_ties}
 use Rattle.std.specs.Ordering.{match_ordering}
 use Rattle.std.specs.declared.cmp.Ordering.{Ordering}
 use Rattle.std.specs.declared.cmp.Ordering.TheVariants.{Less, Equal, Greater}
+use Rattle.cedar_data.specs.Maps.{get}
+use Rattle.cedar_text.specs.Words.{has_word}
 use Rattle.cedar_tree.specs.Trees.{Place, Text}
 use Rattle.cedar_names.specs.Order.{word_cmp}
 use Rattle.cedar_convert_faults.specs.Repeats.{Names, words_of}
 use Rattle.cedar_convert_warnings.specs.Shadowing.{builtin_shadowed, common_shadows, is_builtin, places_by_name}
-use Rattle.cedar_convert_warnings.specs.declared.warnings.SchemaWarning.TheVariants.{ShadowsBuiltin}
+use Rattle.cedar_convert_warnings.specs.declared.warnings.SchemaWarning.TheVariants.{ShadowsBuiltin, ShadowsEntity}
 
-either_off : (a b : Bool) → (a || b) ≡ false → (a ≡ false) × (b ≡ false)
+pub either_off : (a b : Bool) → (a || b) ≡ false → (a ≡ false) × (b ≡ false)
 either_off true b h = absurd (cc)
 either_off false b h = (refl, h)
 
-both_off : (a b : Bool) → a ≡ false → b ≡ false → (a || b) ≡ false
+pub both_off : (a b : Bool) → a ≡ false → b ≡ false → (a || b) ≡ false
 both_off a b p q = ap (λ a. a || b) p ∙ q
 
 module _ {K V : Type 0} (cmp : K → K → Ordering) (passes : K → Bool) where
@@ -44,6 +47,24 @@ module _ {K V : Type 0} (cmp : K → K → Ordering) (passes : K → Bool) where
       let parts = either_off (passes p.0) (some ps) off in
       some_made (insert_entry cmp made p.0 p.1) ps (some_put made p.0 p.1 parts.0 none) parts.1
 
+same_word : (word key : Text) → is_at (word_cmp word) key ≡ bytes_eq word key
+same_word word key = sym (texts_ties word key)
+
+-- a name that isn't among the keys has no place
+unplaced : (es : List (Text × Place)) (word : Text) → list_any (λ e. bytes_eq word e.0) es ≡ false → get word_cmp es word ≡ None
+unplaced [] word none = refl
+unplaced (e ∷ es) word none =
+    let parts = either_off (bytes_eq word e.0) (list_any (λ e. bytes_eq word e.0) es) none in
+    ap (λ b. cond b (Some e.1) (get word_cmp es word)) (same_word word e.0 ∙ parts.0) ∙ unplaced es word parts.1
+
+words_paired : (passes : Text → Bool) (names : Names) → list_any {X = Text × Place} (λ e. passes e.0) (map (λ n. (n.node, n.loc)) names) ≡ list_any passes (words_of names)
+words_paired passes [] = refl
+words_paired passes (n ∷ names) = ap (λ b. passes n.node || b) (words_paired passes names)
+
+-- no key passes where no name does
+none_placed : (passes : Text → Bool) (names : Names) → list_any passes (words_of names) ≡ false → list_any (λ e. passes e.0) (places_by_name names) ≡ false
+none_placed passes names none = some_made word_cmp passes [] (map (λ n. (n.node, n.loc)) names) refl (words_paired passes names ∙ none)
+
 module _ (extensions : List Text) where
   unnamed : (es : List (Text × Place)) → list_any (λ e. is_builtin extensions e.0) es ≡ false → flat_map (builtin_shadowed extensions) es ≡ []
   unnamed [] none = refl
@@ -51,18 +72,27 @@ module _ (extensions : List Text) where
       let parts = either_off (is_builtin extensions e.0) (list_any (λ e. is_builtin extensions e.0) es) none in
       ap (λ b. cond b (ShadowsBuiltin (record { name = e.0; loc = e.1 }) ∷ []) [] ++ flat_map (builtin_shadowed extensions) es) parts.0 ∙ unnamed es parts.1
 
-  words_paired : (names : Names) → list_any {X = Text × Place} (λ e. is_builtin extensions e.0) (map (λ n. (n.node, n.loc)) names) ≡ list_any (is_builtin extensions) (words_of names)
-  words_paired [] = refl
-  words_paired (n ∷ names) = ap (λ b. is_builtin extensions n.node || b) (words_paired names)
+  unshared : (entities : Names) (es : List (Text × Place)) → list_any (λ e. has_word (words_of entities) e.0) es ≡ false → list_any (λ e. is_builtin extensions e.0) es ≡ false
+      → flat_map (common_shadows extensions (places_by_name entities)) es ≡ []
+  unshared entities [] apart none = refl
+  unshared entities (e ∷ es) apart none =
+      let away = either_off (has_word (words_of entities) e.0) (list_any (λ e. has_word (words_of entities) e.0) es) apart in
+      let parts = either_off (is_builtin extensions e.0) (list_any (λ e. is_builtin extensions e.0) es) none in
+      let nowhere = unplaced (places_by_name entities) e.0 (none_placed (bytes_eq e.0) entities away.0) in
+      let others = flat_map (common_shadows extensions (places_by_name entities)) es in
+      ap (λ p. (map (λ place. ShadowsEntity (record { name = e.0; entity_loc = place; common_loc = e.1 })) (option_to_list p) ++ builtin_shadowed extensions e) ++ others) nowhere
+      ∙ ap (λ b. cond b (ShadowsBuiltin (record { name = e.0; loc = e.1 }) ∷ []) [] ++ others) parts.0
+      ∙ unshared entities es away.1 parts.1
 
-  -- without common types, and with no entity type of the name of a builtin type, there is nothing to warn of
-  pub none_shadowed : (commons : List (Text × Place)) (common_names entities : Names) (b : Bool) → commons ≡ places_by_name common_names → commons ≡ []
-      → b ≡ list_any (is_builtin extensions) (words_of entities) → b ≡ false
-      → [] ≡ flat_map (common_shadows extensions (places_by_name entities)) (places_by_name common_names) ++ flat_map (builtin_shadowed extensions) (places_by_name entities)
-  none_shadowed commons common_names entities b are none is off =
-      let pairs : List (Text × Place) = map (λ n. (n.node, n.loc)) entities in
-      let passed = words_paired entities ∙ sym is ∙ off in
-      sym (ap (λ cs. flat_map (common_shadows extensions (places_by_name entities)) cs ++ flat_map (builtin_shadowed extensions) (places_by_name entities)) (sym are ∙ none)
-      ∙ unnamed (places_by_name entities) (some_made word_cmp (is_builtin extensions) [] pairs refl passed))
+  -- where no name is that of a builtin type, and none that of an entity type and of a common type, there is nothing to warn of
+  pub none_shadowed : (entities commons : Names) (b c : Bool) → b ≡ list_any (is_builtin extensions) (words_of entities) → b ≡ false
+      → c ≡ list_any (is_builtin extensions) (words_of commons) → c ≡ false → list_any (has_word (words_of entities)) (words_of commons) ≡ false
+      → [] ≡ flat_map (common_shadows extensions (places_by_name entities)) (places_by_name commons) ++ flat_map (builtin_shadowed extensions) (places_by_name entities)
+  none_shadowed entities commons b c is off is_there off_there apart =
+      let entities_off = none_placed (is_builtin extensions) entities (sym is ∙ off) in
+      let commons_off = none_placed (is_builtin extensions) commons (sym is_there ∙ off_there) in
+      let away = none_placed (has_word (words_of entities)) commons apart in
+      sym (ap (λ ws. ws ++ flat_map (builtin_shadowed extensions) (places_by_name entities)) (unshared entities (places_by_name commons) away commons_off)
+      ∙ unnamed (places_by_name entities) entities_off)
 
 pub ruleset unshadowed = (none_shadowed)

@@ -2,6 +2,7 @@
 //! Warnings of declared names that hide others.
 #![tactic(auto)]
 
+mod merging;
 mod shadowing;
 mod warnings;
 

@@ -8,6 +8,7 @@ ghost use Rattle.cedar_convert_faults.specs.Gathering.{gathered_tree};
 ghost use Rattle.cedar_convert_faults.specs.Repeats.{words_of};
 ghost use Rattle.cedar_convert_warnings.specs.Shadowing.{builtin_shadowed, by_words, common_shadows, entity_shadowed, is_builtin, namespace_entry, namespace_shadows, places_by_name, shadows, shadows_by_namespace};
 
+use crate::merging::are_apart;
 use crate::warnings::{SchemaWarning, ShadowsBuiltinWarning, ShadowsEntityWarning};
 use cedar_convert_faults::{Gathered, Kind, names_in};
 use cedar_data::{Dup, Items, Map, Mem, Text};
@@ -125,8 +126,8 @@ fn add_entities(
     Ok(())
 }
 
-/// The warnings of a namespace: of its common types and then of its entity types. Where it has no common type and no
-/// entity type has the name of a builtin type, there are none, and no order of the names is made.
+/// The warnings of a namespace: of its common types and then of its entity types. Where no builtin type has one of the
+/// names, and none is seen to be that of both kinds, there are no warnings, and no order of the names is made.
 #[tactic(auto, using(crate::proofs::Builtins::unshadowed))]
 fn namespace_warnings(
     alloc: Global,
@@ -137,10 +138,14 @@ fn namespace_warnings(
         (map (annotated_tree (node_of decl_tree)) decls.now)) }
 {
     let names = names_in(alloc, Kind::EntityType, decls)?;
-    let commons = places_of(alloc, names_in(alloc, Kind::CommonType, decls)?)?;
-    if commons.is_empty() && !has_builtin(extensions, &names) {
+    let common_names = names_in(alloc, Kind::CommonType, decls)?;
+    if !has_builtin(extensions, &names)
+        && !has_builtin(extensions, &common_names)
+        && are_apart(names.as_slice(), common_names.as_slice())
+    {
         return Ok(Items::new(alloc));
     }
+    let commons = places_of(alloc, common_names)?;
     let entities = places_of(alloc, names)?;
     let mut warnings = Vec::new(alloc);
     add_commons(alloc, extensions, &entities, &commons, &mut warnings)?;
