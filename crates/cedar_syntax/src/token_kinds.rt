@@ -39,14 +39,14 @@ pub fn is_mark(token: &Lexeme<'_>, mark: &str) -> bool
 pub fn opens_bracket(token: &Lexeme<'_>) -> bool
     ensures { result ≡ opens_bracket (bare token.now) }
 {
-    is_mark(token, "{") || is_mark(token, "<")
+    matches!(token.kind, TokenKind::Punct) && matches!(token.text.as_bytes(), [b'{' | b'<'])
 }
 
 /// Whether the token is `}` or `>`.
 pub fn closes_bracket(token: &Lexeme<'_>) -> bool
     ensures { result ≡ closes_bracket (bare token.now) }
 {
-    is_mark(token, "}") || is_mark(token, ">")
+    matches!(token.kind, TokenKind::Punct) && matches!(token.text.as_bytes(), [b'}' | b'>'])
 }
 
 /// The bytes that the token takes.
