@@ -5,6 +5,10 @@ use Rattle.std.proofs.lemmas.List.{append-nil}
 use Rattle.cedar_text.proofs.Members.{map-append}
 
 module _ {K V : Type 0} where
+  -- one key
+  pub put-one : (head : K) (others : List K) (value : V) (old made : List (K × V)) → others ≡ [] → made ≡ old ++ (head, value) ∷ [] → made ≡ old ++ map (λ key. (key, value)) (head ∷ others)
+  put-one head others value old made none put = put ∙ ap (λ l. old ++ (head, value) ∷ map (λ key. (key, value)) l) (sym none)
+
   -- without keys
   pub put-none : (keys : List K) (value : V) (made : List (K × V)) → keys ≡ [] → made ≡ made ++ map (λ key. (key, value)) keys
   put-none keys value made none = sym (append-nil made) ∙ ap (λ l. made ++ map (λ key. (key, value)) l) (sym none)
@@ -19,7 +23,7 @@ module _ {K V : Type 0} where
       ∙ ap (λ l. old ++ l) (sym (map-append pair rest (last ∷ [])))
       ∙ ap (λ l. old ++ map pair l) (sym split)
 
-pub ruleset putting = (put-none, put-last)
+pub ruleset putting = (put-one, put-none, put-last)
 
 -- keys with one value, seen through functions
 module _ {K V J W : Type 0} (f : K → J) (g : V → W) where

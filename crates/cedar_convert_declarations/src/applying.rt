@@ -123,11 +123,12 @@ fn clause_list(
     ensures { IfOk result (λ all. map (node_of app_tree) all.items ≡ clauses_of
         (option_map (node_of (λ lines. map (node_of app_tree) (elements lines))) clauses)) }
 {
-    let mut all = Vec::new(alloc);
     match clauses {
-        None => Ok(all),
+        None => Ok(Vec::new(alloc)),
         Some(clauses) => {
-            push_elements(clauses.node, &mut all)?;
+            let NonEmpty { head, tail } = clauses.node;
+            let mut all = tail.into_vec();
+            all.insert(0, head)?;
             Ok(all)
         }
     }

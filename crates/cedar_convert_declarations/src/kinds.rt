@@ -11,7 +11,7 @@ ghost use Rattle.cedar_convert_fragment.specs.Fragments.{Listed, Shaped};
 ghost use Rattle.cedar_convert_fragment.specs.Views.{action_seen, actions_seen, commons_seen, entities_seen, kind_seen, type_seen};
 
 use crate::applying::{applies_declared, parents_declared};
-use crate::putting::{all_three, both, put_each, raw_names, some_texts, texts, unreserved_ids};
+use crate::putting::{all_three, both, put_all, put_each, raw_names, some_texts, unreserved_ids};
 use cedar_convert_fragment::{shape_declared, type_declared};
 use cedar_data::{Items, Mem, Text};
 use cedar_fragment::{
@@ -118,7 +118,7 @@ pub fn add_entities(
         annotations,
         loc: Some(loc),
     };
-    put_each(alloc, ids, entity, made)?;
+    put_all(alloc, ids, entity, made)?;
     Ok(())
 }
 
@@ -159,8 +159,8 @@ fn action_declared(
     action: ActionDecl,
     annotations: Annotations,
     loc: Loc,
-) -> Mem<(Vec<Text>, ActionType<RawName>)>
-    ensures names { IfOk result (λ made. made.0.items ≡ words_of (action_tree action).names) }
+) -> Mem<(NonEmpty<Text>, ActionType<RawName>)>
+    ensures names { IfOk result (λ made. elements made.0 ≡ words_of (action_tree action).names) }
     ensures action { IfOk result (λ made. action_seen made.1
         ≡ record {
           content = action_content
@@ -174,7 +174,7 @@ fn action_declared(
         parents,
         app_decls,
     } = action;
-    let names = texts(alloc, names);
+    let names = some_texts(alloc, names);
     both(
         names,
         acting_declared(alloc, app_decls, parents, annotations, loc),

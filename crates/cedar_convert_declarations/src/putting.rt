@@ -11,7 +11,7 @@ use cedar_convert_fragment::raw_name_from_path;
 use cedar_data::{Dup, Items, Mem, Text};
 use cedar_fragment::RawName;
 use cedar_names::{Id, UnreservedId};
-use cedar_text::{Node, NonEmpty, push_elements};
+use cedar_text::{Node, NonEmpty};
 use cedar_tree::Path;
 use std::alloc::Global;
 
@@ -43,7 +43,7 @@ pub(crate) fn all_three<A: Drop, B: Drop, C: Drop>(
 
 /// Puts each of these keys with the value behind the others. The last key takes the value itself, each other a copy.
 #[tactic(auto, using(crate::proofs::PutEach::putting))]
-pub(crate) fn put_each<K: Drop, V: Dup + Drop>(
+pub(crate) fn put_all<K: Drop, V: Dup + Drop>(
     alloc: Global,
     mut keys: Vec<K>,
     value: V,
@@ -61,6 +61,27 @@ pub(crate) fn put_each<K: Drop, V: Dup + Drop>(
     }
     made.push((last, value))?;
     Ok(())
+}
+
+/// The same of keys of which there is one at least, and mostly one alone.
+#[tactic(auto, using(crate::proofs::PutEach::putting))]
+pub(crate) fn put_each<K: Drop, V: Dup + Drop>(
+    alloc: Global,
+    keys: NonEmpty<K>,
+    value: V,
+    made: &mut Vec<(K, V)>,
+) -> Mem<()>
+    ensures { OnOk result (made.new.items ≡ made.old.items
+        ++ map (λ key. (key, value)) (elements keys)) }
+{
+    let NonEmpty { head, tail } = keys;
+    if tail.is_empty() {
+        made.push((head, value))?;
+        return Ok(());
+    }
+    let mut all = tail.into_vec();
+    all.insert(0, head)?;
+    put_all(alloc, all, value, made)
 }
 
 /// Puts the name behind the others, unless it is `__cedar`.
@@ -81,27 +102,13 @@ pub(crate) fn unreserved_ids(alloc: Global, names: NonEmpty<Node<Id>>) -> Mem<Ve
     ensures { IfOk result (λ ids. map unreserved_word ids.items
         ≡ free_names (map (node_of id_word) (elements names))) }
 {
-    let mut all = Vec::new(alloc);
-    push_elements(names, &mut all)?;
+    let NonEmpty { head, tail } = names;
     let mut ids = Vec::new(alloc);
-    for name in all {
+    add_unreserved(alloc, head, &mut ids)?;
+    for name in tail.into_vec() {
         add_unreserved(alloc, name, &mut ids)?;
     }
     Ok(ids)
-}
-
-/// The texts, without their places, in order.
-pub(crate) fn texts(alloc: Global, nodes: NonEmpty<Node<Text>>) -> Mem<Vec<Text>>
-    ensures { IfOk result (λ texts. texts.items
-        ≡ words_of (map (node_of (λ text. text)) (elements nodes))) }
-{
-    let mut all = Vec::new(alloc);
-    push_elements(nodes, &mut all)?;
-    let mut texts = Vec::new(alloc);
-    for text in all {
-        texts.push(text.node)?;
-    }
-    Ok(texts)
 }
 
 /// The texts without their places, in order, however many.
@@ -148,12 +155,11 @@ pub(crate) fn add_raw_names(
     ensures { OnOk result (map name_at names.new
         ≡ map name_at names.old ++ map name_of (map path_tree (listed paths))) }
 {
-    let Some(paths) = paths else {
+    let Some(NonEmpty { head, tail }) = paths else {
         return Ok(());
     };
-    let mut all = Vec::new(alloc);
-    push_elements(paths, &mut all)?;
-    for path in all {
+    names.push(raw_name_from_path(head))?;
+    for path in tail.into_vec() {
         names.push(raw_name_from_path(path))?;
     }
     Ok(())

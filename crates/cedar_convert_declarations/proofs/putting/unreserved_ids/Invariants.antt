@@ -9,4 +9,4 @@ use Rattle.cedar_convert_declarations.proofs.putting.unreserved_ids.Given as goa
 -- the names so far, with those of the rest, are all
 abbrev pub invariant-loop-name : goal.invariant-loop-name
 invariant-loop-name l =
-    map unreserved_word l.ids.items ++ free_names (map (node_of id_word) (into_iter_items l.name-iterator)) ≡ free_names (map (node_of id_word) (into_iter_items l.initial.name-iterator))
+    map unreserved_word l.ids.items ++ free_names (map (node_of id_word) (into_iter_items l.name-iterator)) ≡ map unreserved_word l.initial.ids.items ++ free_names (map (node_of id_word) (into_iter_items l.initial.name-iterator))
