@@ -9,7 +9,7 @@ ghost use Rattle.cedar_convert_fragment.specs.Declares.{declared_by, declared_in
 ghost use Rattle.cedar_convert_fragment.specs.Views.{actions_seen, commons_seen, definition_seen, entities_seen, fragment_seen, namespace_words, namespaces_seen};
 
 use cedar_convert_declarations::{add_actions, add_common, add_entities};
-use cedar_convert_faults::Gathered;
+use cedar_convert_faults::{Gathered, Kind};
 use cedar_data::{Items, Map, Mem, Text};
 use cedar_fragment::{
     ActionType, CommonType, CommonTypeId, EntityType, Fragment, NamespaceDefinition, RawName,
@@ -45,6 +45,23 @@ fn definition(
     })
 }
 
+/// How many of the declarations are of this kind.
+fn count_of(kind: Kind, decls: &Items<Annotated<Node<Declaration>>>) -> usize {
+    decls
+        .iter()
+        .filter(|decl| kind_of(&decl.item.node) == kind)
+        .count()
+}
+
+/// What a declaration declares.
+fn kind_of(decl: &Declaration) -> Kind {
+    match decl {
+        Declaration::Entity(_) => Kind::EntityType,
+        Declaration::Action(_) => Kind::Action,
+        Declaration::Common(_) => Kind::CommonType,
+    }
+}
+
 /// What declarations declare, under these annotations; of several of one kind and name the last counts, and what is
 /// named `__cedar` is left out. It fails only for want of memory.
 #[tactic(auto, using(crate::proofs::Declaring::ending))]
@@ -57,9 +74,9 @@ pub(crate) fn definition_declared(
         ≡ definition_of (annotations_tree annotations)
         (map (annotated_tree (node_of decl_tree)) decls)) }
 {
-    let mut common_types = Vec::new(alloc);
-    let mut entity_types = Vec::new(alloc);
-    let mut actions = Vec::new(alloc);
+    let mut common_types = Vec::with_capacity(alloc, count_of(Kind::CommonType, &decls))?;
+    let mut entity_types = Vec::with_capacity(alloc, count_of(Kind::EntityType, &decls))?;
+    let mut actions = Vec::with_capacity(alloc, count_of(Kind::Action, &decls))?;
     for decl in decls.into_vec() {
         declare_one(
             alloc,
