@@ -1,5 +1,6 @@
 -- SPDX-License-Identifier: Apache-2.0
 pub mod Ascending
+mod FewNames
 mod ReadClauses
 pub mod FaultLaws
 pub mod FirstRepeats

@@ -5,14 +5,11 @@ ghost use Rattle.cedar_tree.specs.Meanings.{attrs_tree, type_tree};
 ghost use Rattle.cedar_convert_faults.specs.Repeats.{place_of};
 ghost use Rattle.cedar_convert_faults.specs.TypeRepeats.{leftmost_repeat, repeat_among};
 
-use crate::repeats::Repeat;
+use crate::repeats::{FEW, Repeat, repeat_of};
 use cedar_data::{Dup, Items, Map, Mem, Text};
 use cedar_text::{Loc, Node};
 use cedar_tree::{Annotated, AttrDecl, Type};
 use std::alloc::Global;
-
-/// Among so many attributes one name is found by a look at each.
-const FEW: usize = 16;
 
 /// The leftmost attribute of a type that an earlier attribute of the same record has as its name, if there is one.
 #[cycle(repeats)]
@@ -38,21 +35,6 @@ fn place_among<'a>(attrs: &'a [Node<Annotated<AttrDecl>>], name: &Text) -> Optio
         }
     }
     None
-}
-
-/// That an attribute of this name stands again, the place of an earlier one being the first.
-fn repeat_of(alloc: Global, first: &Loc, name: &Node<Text>) -> Mem<Repeat>
-    ensures { IfOk result (λ repeat. repeat
-        ≡ record { name = name.now.node; first = first.now; second = name.now.loc }) }
-{
-    let first = first.dup(alloc)?;
-    let second = name.loc.dup(alloc)?;
-    let name = name.node.dup(alloc)?;
-    Ok(Repeat {
-        name,
-        first,
-        second,
-    })
 }
 
 /// The same of the attributes of a record that are few, each looked for among those before it.

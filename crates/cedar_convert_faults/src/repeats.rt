@@ -1,8 +1,9 @@
 // SPDX-License-Identifier: Apache-2.0
 ghost use Rattle.std.specs.Prelude.{◌≡◌, ◌||◌, ◌&&◌, IsTrue, None, IfOk, length, nat_eq, nat_lt};
+ghost use Rattle.std.specs.Option.{option_copied};
 ghost use Rattle.std.specs.Ordering.{is_lt};
 ghost use Rattle.cedar_names.specs.Order.{word_cmp};
-ghost use Rattle.cedar_convert_faults.specs.Repeats.{first_repeat, IsFirstOrNone};
+ghost use Rattle.cedar_convert_faults.specs.Repeats.{first_repeat, place_of, IsFirstOrNone};
 
 use cedar_data::{Dup, Items, Map, Mem, Text};
 use cedar_text::{Loc, Node};
@@ -14,6 +15,51 @@ pub struct Repeat {
     pub name: Text,
     pub first: Loc,
     pub second: Loc,
+}
+
+/// Among so many names one is found by a look at each.
+pub(crate) const FEW: usize = 16;
+
+/// That this name stands again, the place of an earlier one being the first.
+pub(crate) fn repeat_of(alloc: Global, first: &Loc, name: &Node<Text>) -> Mem<Repeat>
+    ensures { IfOk result (λ repeat. repeat
+        ≡ record { name = name.now.node; first = first.now; second = name.now.loc }) }
+{
+    let first = first.dup(alloc)?;
+    let second = name.loc.dup(alloc)?;
+    let name = name.node.dup(alloc)?;
+    Ok(Repeat {
+        name,
+        first,
+        second,
+    })
+}
+
+/// The place of the first of these names that is the word, if one is.
+fn place_of<'a>(names: &'a [Node<Text>], word: &Text) -> Option<&'a Loc>
+    ensures { option_copied result ≡ place_of names.now word.now }
+{
+    for name in names {
+        if name.node == *word {
+            return Some(&name.loc);
+        }
+    }
+    None
+}
+
+/// The first of few names that stands a second time, if one does, each looked for among those before it.
+#[tactic(auto, using(crate::proofs::FewNames::sought))]
+fn first_repeat_of_few(alloc: Global, names: &[Node<Text>]) -> Mem<Option<Repeat>>
+    ensures { IfOk result (λ repeat. repeat ≡ first_repeat names.now) }
+{
+    for at in 0..names.len() {
+        let name = &names[at];
+        if let Some(first) = place_of(&names[..at], &name.node) {
+            let repeat = repeat_of(alloc, first, name)?;
+            return Ok(Some(repeat));
+        }
+    }
+    Ok(None)
 }
 
 /// Whether a name is longer than another, or as long and behind it in the order of bytes.
@@ -49,6 +95,9 @@ fn ascend(names: &Items<Node<Text>>) -> bool
 pub fn first_repeat(alloc: Global, names: &Items<Node<Text>>) -> Mem<Option<Repeat>>
     ensures { IfOk result (λ repeat. repeat ≡ first_repeat names.now) }
 {
+    if names.len() <= FEW {
+        return first_repeat_of_few(alloc, names.as_slice());
+    }
     if ascend(names) {
         return Ok(None);
     }
