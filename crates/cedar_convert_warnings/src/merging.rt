@@ -9,6 +9,33 @@ ghost use Rattle.cedar_convert_faults.specs.Repeats.{words_of};
 use cedar_data::Text;
 use cedar_text::Node;
 
+/// Among so many names one is found by a look at each.
+const FEW: usize = 16;
+
+/// Whether one of the names is the word.
+fn has_name(names: &[Node<Text>], word: &Text) -> bool
+    ensures { result ≡ has_word (words_of names.now) word.now }
+{
+    for name in names {
+        if *word == name.node {
+            return true;
+        }
+    }
+    false
+}
+
+/// Whether a name stands in both lists, where each of one is looked for in the other.
+fn share_a_name(ones: &[Node<Text>], others: &[Node<Text>]) -> bool
+    ensures { result ≡ list_any (has_word (words_of ones.now)) (words_of others.now) }
+{
+    for other in others {
+        if has_name(ones, &other.node) {
+            return true;
+        }
+    }
+    false
+}
+
 /// What is left of two lists of names that are gone through as one.
 #[derive(Drop)]
 struct Merge<'n> {
@@ -54,8 +81,9 @@ impl<'n> Merge<'n> {
     }
 }
 
-/// Whether no name stands in both lists, as far as it is told by going through them as one list: if each name is longer
-/// there than the one before it, or as long and behind that in the order of bytes, all are distinct.
+/// Whether no name stands in both lists, as far as it is told without an order of them: of few names, or by going
+/// through both as one list. If each name is longer there than the one before it, or as long and behind that in the
+/// order of bytes, all are distinct.
 #[tactic(auto, using(crate::proofs::Apart::going))]
 pub(crate) fn are_apart(ones: &[Node<Text>], others: &[Node<Text>]) -> bool
     ensures { IsTrue result → list_any (has_word (words_of ones.now)) (words_of others.now)
@@ -63,6 +91,9 @@ pub(crate) fn are_apart(ones: &[Node<Text>], others: &[Node<Text>]) -> bool
 {
     if others.is_empty() {
         return true;
+    }
+    if ones.len() <= FEW && others.len() <= FEW {
+        return !share_a_name(ones, others);
     }
     let mut left = Merge { ones, others };
     let Some(mut last) = left.take() else {
