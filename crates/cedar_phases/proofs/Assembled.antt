@@ -4,7 +4,7 @@ use Rattle.std.proofs.Common.{◌≡◌, ◌++◌, List, Some, None, map, sym, s
 use Rattle.std.specs.List.{AllZip, filter, flat_map}
 use Rattle.cedar_data.specs.Firsts.{AllPass, IsLeast}
 use Rattle.cedar_declared.specs.Held.{names_of}
-use Rattle.cedar_declared.specs.Names.{action_target, targets}
+use Rattle.cedar_declared.specs.Names.{action_target}
 use Rattle.cedar_declared.specs.declared.all_defs.AllDefs.{AllDefs}
 use Rattle.cedar_hierarchy.specs.Made.{MakesAction, MakesEntity}
 use Rattle.cedar_hierarchy.specs.Outlined.{ActionOutlineDescends}
@@ -13,7 +13,7 @@ use Rattle.cedar_names.specs.declared.entity_uid.EntityUID.{EntityUID}
 use Rattle.cedar_names.specs.declared.internal_name.InternalName.{InternalName}
 use Rattle.cedar_names.specs.declared.name.EntityType.{EntityType}
 use Rattle.cedar_phases.specs.Holding.{HoldsUnfolded}
-use Rattle.cedar_phases.specs.NotDeclared.{AreNotDeclared}
+use Rattle.cedar_phases.specs.NotDeclared.{AreNotDeclared, other_targets}
 use Rattle.cedar_phases.specs.SchemaViews.{IsNamed, action_in, schema_in, types_of}
 use Rattle.cedar_phases.proofs.Agreeing.{same_action_target}
 use Rattle.cedar_phases.proofs.Composing.{least_there}
@@ -61,7 +61,7 @@ module _ (W : World) (all_defs : AllDefs) (full : List (InternalName × SchemaTy
   cycle_told e r = (r.0, r.1, least_there Below (λ u. ActionDescendsFrom W u u) there back r.0 r.2)
 
   module _ (others : List InternalName)
-      (members_are : map components others ≡ targets (names_of all_defs) (flat_map (λ e. e.1.parents) (map entity_outline_in types)) ++ targets (names_of all_defs) (flat_map (λ a. a.1.principals ++ a.1.resources) (map action_outline_in acts))) where
+      (members_are : map components others ≡ other_targets (names_of all_defs) (flat_map (λ e. e.1.parents) (map entity_outline_in types)) ++ other_targets (names_of all_defs) (flat_map (λ a. a.1.principals ++ a.1.resources) (map action_outline_in acts))) where
     -- each name that must be an entity type is one, or all that aren't are told
     pub all_are_declared : (ns : List FullName) → AreNotDeclared (names_of all_defs) full full_uses others ns → undeclared_refusal (filter is_free ns) ≡ None → Passes W UndeclaredTypes
     all_are_declared ns are none =

@@ -1,9 +1,10 @@
 -- SPDX-License-Identifier: Apache-2.0
 -- From gathered definitions to what is held of a world.
-use Rattle.std.proofs.Common.{◌≡◌, ◌++◌, List, map, refl, ap, ◌∙◌, subst}
+use Rattle.std.proofs.Common.{◌≡◌, ◌++◌, List, map, refl, sym, ap, ◌∙◌, subst}
 use Rattle.std.specs.List.{flat_map}
 use Rattle.cedar_data.specs.Firsts.{AllPass, FirstRefused}
-use Rattle.cedar_declared.specs.Gathering.{declared_names}
+use Rattle.cedar_declared.proofs.Gains.{gathers_more}
+use Rattle.cedar_declared.specs.Gathering.{declared_names, with_fragment}
 use Rattle.cedar_declared.specs.Held.{names_of}
 use Rattle.cedar_declared.specs.Names.{SameNames}
 use Rattle.cedar_declared.specs.declared.all_defs.AllDefs.{AllDefs}
@@ -38,13 +39,16 @@ module _ (fragments : List Fragment) (extensions : Extensions) (own_defs : AllDe
 
   -- all definitions, and the names of all
   pub holds : (builtins all : Fragment) (all_defs : AllDefs) → map namespace_in (definitions_of builtins) ≡ builtin_namespaces (names_of own_defs) (extension_words extensions)
-      → definitions_of all ≡ flat_map definitions_of fragments ++ definitions_of builtins → SameNames (names_of all_defs) (declared_names (definitions_of all)) → Holds W all_defs (definitions_of all) extensions
-  holds builtins all all_defs built joined same = record {
+      → definitions_of all ≡ flat_map definitions_of fragments ++ definitions_of builtins → all_defs ≡ with_fragment own_defs builtins → Holds W all_defs (definitions_of all) extensions
+  holds builtins all all_defs built joined extended = record {
     names_agree = subst (λ ns. AgreeingNames (names_of all_defs) (names_in ns)) whole (names_agree all_defs (definitions_of all) same);
     namespaces_are = whole;
     extensions_are = refl;
   }
     where
+      same : SameNames (names_of all_defs) (declared_names (definitions_of all))
+      same = subst (λ ds. SameNames (names_of all_defs) (declared_names ds)) (sym joined) (gathers_more own_defs all_defs (flat_map definitions_of fragments) builtins gathered extended)
+
       whole : map namespace_in (definitions_of all) ≡ all_namespaces W
       whole =
           ap (map namespace_in) joined

@@ -14,6 +14,7 @@ pub mod Descending
 pub mod EntityReferences
 pub mod Making
 pub mod MembershipLists
+pub mod OtherTargets
 pub mod Records
 pub mod Undeclaring
 pub mod UnfoldedWorld

@@ -15,11 +15,12 @@ use Rattle.cedar_names.specs.declared.extensions.Extensions.{Extensions}
 use Rattle.cedar_names.specs.declared.internal_name.InternalName.{InternalName}
 use Rattle.cedar_names.specs.declared.name.EntityType.{EntityType}
 use Rattle.cedar_phases.specs.Holding.{Definition, Holds}
-use Rattle.cedar_phases.specs.NotDeclared.{AreNotDeclared}
+use Rattle.cedar_phases.specs.NotDeclared.{AreNotDeclared, other_targets, unless_entity}
 use Rattle.cedar_phases.proofs.Agreeing.{same_entity, same_target}
 use Rattle.cedar_phases.proofs.Contained.{all_members, and_left, of_contained}
 use Rattle.cedar_phases.proofs.EntityReferences.{all_free, names_in_all}
 use Rattle.cedar_phases.proofs.MembershipLists.{targets_flat}
+use Rattle.cedar_phases.proofs.OtherTargets.{matter_behind, others_matter}
 use Rattle.cedar_schema_error.specs.FullNames.{FullName, Uid}
 use Rattle.cedar_schema_error.specs.NameReferences.{ActionReference, NameReference}
 use Rattle.cedar_schema_error.specs.Refusals.{Refusal, UndeclaredEntityTypes}
@@ -63,7 +64,7 @@ module _ (W : World) (all_defs : AllDefs) (ds : List Definition) (X : Extensions
     (q : QualifiesJob (job W) (by_name (written_type components) full) (by_place (written_type components) full_uses))
     (types : List (EntityType × EntityOutline)) (acts : List (EntityUID × ActionOutline))
     (types_are : map entity_outline_in types ≡ map entity_outline (entity_types W)) (acts_are : map action_outline_in acts ≡ map action_outline (actions W))
-    (members_are : map components others ≡ targets (names_of all_defs) (flat_map (λ e. e.1.parents) (map entity_outline_in types)) ++ targets (names_of all_defs) (flat_map (λ a. a.1.principals ++ a.1.resources) (map action_outline_in acts))) where
+    (members_are : map components others ≡ other_targets (names_of all_defs) (flat_map (λ e. e.1.parents) (map entity_outline_in types)) ++ other_targets (names_of all_defs) (flat_map (λ a. a.1.principals ++ a.1.resources) (map action_outline_in acts))) where
   same : target (names_of all_defs) ≡ target (names W)
   same = same_target (names_of all_defs) (names W) h.names_agree
 
@@ -73,24 +74,41 @@ module _ (W : World) (all_defs : AllDefs) (ds : List Definition) (X : Extensions
   applications_same : flat_map (λ a. a.1.principals ++ a.1.resources) (map action_outline_in acts) ≡ applications (actions W)
   applications_same = ap (flat_map (λ (a : Uid × ActionParts). a.1.principals ++ a.1.resources)) acts_are ∙ sym (through_map action_outline (λ (a : Uid × ActionParts). a.1.principals ++ a.1.resources) (actions W))
 
+  abbrev memberships : List NameReference
+  memberships = entity_parents (entity_types W) ++ applications (actions W)
+
   -- all names that must be entity types
-  given_same : names_of_entities full full_uses others ≡ targets (names W) (references_to_entities W)
+  abbrev given : List FullName
+  given = all_entity_references (full_types full) ++ (all_entity_references (full_types full_uses) ++ targets (names_of all_defs) memberships)
+
+  given_same : given ≡ targets (names W) (references_to_entities W)
   given_same =
       let commons : all_entity_references (full_types full) ≡ targets (names W) (all_entity_references (common_types W)) =
       same_names components (written_type components) full ∙ sym (names_in_all (target (names W)) (common_types W) (by_name (written_type components) full) q.commons_are) in
       let used : all_entity_references (full_types full_uses) ≡ targets (names W) (all_entity_references (uses W)) =
       same_names told_use (written_type components) full_uses ∙ sym (names_in_all (target (names W)) (uses W) (by_place (written_type components) full_uses) q.uses_are) in
-      let rest : map components others ≡ targets (names W) (entity_parents (entity_types W) ++ applications (actions W)) =
-      members_are
-      ∙ (λ i. targets (names_of all_defs) (parents_same i) ++ targets (names_of all_defs) (applications_same i))
-      ∙ sym (filter_map-append (target (names_of all_defs)) (entity_parents (entity_types W)) (applications (actions W)))
-      ∙ ap (λ (t : NameReference → Option FullName). filter_map t (entity_parents (entity_types W) ++ applications (actions W))) same in
+      let rest : targets (names_of all_defs) memberships ≡ targets (names W) memberships = ap (λ (t : NameReference → Option FullName). filter_map t memberships) same in
       (λ i. commons i ++ (used i ++ rest i))
-      ∙ ap (λ l. targets (names W) (all_entity_references (common_types W)) ++ l) (sym (filter_map-append (target (names W)) (all_entity_references (uses W)) (entity_parents (entity_types W) ++ applications (actions W))))
-      ∙ sym (filter_map-append (target (names W)) (all_entity_references (common_types W)) (all_entity_references (uses W) ++ (entity_parents (entity_types W) ++ applications (actions W))))
+      ∙ ap (λ l. targets (names W) (all_entity_references (common_types W)) ++ l) (sym (filter_map-append (target (names W)) (all_entity_references (uses W)) memberships))
+      ∙ sym (filter_map-append (target (names W)) (all_entity_references (common_types W)) (all_entity_references (uses W) ++ memberships))
+
+  -- the memberships that are given
+  others_are : map components others ≡ other_targets (names_of all_defs) memberships
+  others_are =
+      members_are
+      ∙ (λ i. other_targets (names_of all_defs) (parents_same i) ++ other_targets (names_of all_defs) (applications_same i))
+      ∙ sym (filter_map-append (λ r. unless_entity (names_of all_defs) (target (names_of all_defs) r)) (entity_parents (entity_types W)) (applications (actions W)))
+
+  undeclared_at : (n : FullName) → (contains words_cmp (names_of_entities full full_uses others) n && not (is_entity (names_of all_defs) n)) ≡ (contains words_cmp given n && not (is_entity (names_of all_defs) n))
+  undeclared_at n =
+      ap (λ l. contains words_cmp (all_entity_references (full_types full) ++ (all_entity_references (full_types full_uses) ++ l)) n && not (is_entity (names_of all_defs) n)) others_are
+      ∙ matter_behind (names_of all_defs) n (all_entity_references (full_types full)) (all_entity_references (full_types full_uses) ++ other_targets (names_of all_defs) memberships) (all_entity_references (full_types full_uses) ++ targets (names_of all_defs) memberships)
+      (matter_behind (names_of all_defs) n (all_entity_references (full_types full_uses)) (other_targets (names_of all_defs) memberships) (targets (names_of all_defs) memberships) (others_matter (names_of all_defs) n memberships))
 
   undeclared_same : IsUndeclaredAmong (names_of all_defs) (names_of_entities full full_uses others) ≡ IsUndeclared W
-  undeclared_same = λ i n. IsTrue (contains words_cmp (given_same i) n && not (same_entity (names_of all_defs) (names W) h.names_agree i n))
+  undeclared_same =
+      (λ i n. IsTrue (undeclared_at n i))
+      ∙ (λ i n. IsTrue (contains words_cmp (given_same i) n && not (same_entity (names_of all_defs) (names W) h.names_agree i n)))
 
   module _ (ns : List FullName) (are : AreNotDeclared (names_of all_defs) full full_uses others ns) where
     set_is : IsSetOf words_cmp (IsUndeclared W) ns

@@ -70,19 +70,19 @@ fn join(alloc: Global, fragments: Vec<Fragment>, last: Fragment) -> Mem<Fragment
 /// All definitions of fragments, with the builtin types and their aliases, where `own` has the names of the fragments.
 fn declare_all(
     alloc: Global,
-    own: &AllDefs,
+    own: AllDefs,
     fragments: Vec<Fragment>,
     extensions: &Extensions,
 ) -> Mem<Declarations>
-    requires { SameNames (names_of own.now)
+    requires { SameNames (names_of own)
         (declared_names (flat_map definitions_of fragments.items)) }
     ensures { IfOk result
         (λ d. Holds (world_of fragments.items extensions.now) d.all_defs
         (definitions_of d.definitions) extensions.now) }
 {
-    let builtins = builtin_definitions(alloc, own, extensions)?;
+    let builtins = builtin_definitions(alloc, &own, extensions)?;
+    let all_defs = own.with_fragment(&builtins)?;
     let definitions = join(alloc, fragments, builtins)?;
-    let all_defs = AllDefs::single_fragment(alloc, &definitions)?;
     Ok(Declarations {
         all_defs,
         definitions,
@@ -92,11 +92,11 @@ fn declare_all(
 /// The same. Refused where a name that the fragments declare shadows another.
 fn declare_with(
     alloc: Global,
-    own: &AllDefs,
+    own: AllDefs,
     fragments: Vec<Fragment>,
     extensions: &Extensions,
 ) -> Out<Declarations, SchemaError>
-    requires { SameNames (names_of own.now)
+    requires { SameNames (names_of own)
         (declared_names (flat_map definitions_of fragments.items)) }
     ensures passes { IfOk result (λ _. Passes (world_of fragments.items extensions.now) Shadowing) }
     ensures holds { IfOk result
@@ -129,5 +129,5 @@ pub(crate) fn declare(
         (λ e. RefusesAt (world_of fragments.items extensions.now) Shadowing (told e)) }
 {
     let own = AllDefs::new(alloc, fragments.as_slice())?;
-    declare_with(alloc, &own, fragments, extensions)
+    declare_with(alloc, own, fragments, extensions)
 }

@@ -11,9 +11,9 @@ use Rattle.cedar_shadowing.specs.Shadowing.{ShadowPasses, ShadowRefuses, shadow_
 use Rattle.cedar_sound.specs.Sound.{RefusesAt, Shadowing}
 
 pub returns-in_ok-declarations-in-Ok-clause-passes : goal.returns-in_ok-declarations-in-Ok-clause-passes
-returns-in_ok-declarations-in-Ok-clause-passes c = shadowing_passes c.args.fragments.items c.args.extensions.now c.args.own.now c.requires c.in-Ok.ensures.ok
+returns-in_ok-declarations-in-Ok-clause-passes c = shadowing_passes c.args.fragments.items c.args.extensions.now c.args.own c.requires c.in-Ok.ensures.ok
 
 pub returns-in-Err-clause-refused : goal.returns-in-Err-clause-refused
 returns-in-Err-clause-refused c =
-    carried (Unit {0}) Declarations (λ e. FirstRefused (ShadowPasses (names_of c.args.own.now)) (ShadowRefuses (names_of c.args.own.now)) shadow_phases (told e)) (λ e. RefusesAt (world_of c.args.fragments.items c.args.extensions.now) Shadowing (told e))
-    (shadowing_refuses c.args.fragments.items c.args.extensions.now c.args.own.now c.requires) c.in-Err.failure c.in-Err.ensures.refused
+    carried (Unit {0}) Declarations (λ e. FirstRefused (ShadowPasses (names_of c.args.own)) (ShadowRefuses (names_of c.args.own)) shadow_phases (told e)) (λ e. RefusesAt (world_of c.args.fragments.items c.args.extensions.now) Shadowing (told e))
+    (shadowing_refuses c.args.fragments.items c.args.extensions.now c.args.own c.requires) c.in-Err.failure c.in-Err.ensures.refused
