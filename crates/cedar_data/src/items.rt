@@ -41,6 +41,14 @@ impl<T> Items<T> {
         }
     }
 
+    /// The empty list, with room for `count` items. It fails only for want of memory.
+    pub fn with_room(alloc: Global, count: usize) -> Mem<Items<T>>
+        ensures { IfOk result (λ items. items ≡ []) }
+    {
+        let items = Vec::with_capacity(alloc, count)?;
+        Ok(Items { items })
+    }
+
     /// The items of a `Vec`. It takes no memory.
     pub fn from_vec(items: Vec<T>) -> Items<T>
         ensures { result ≡ items.items }

@@ -50,6 +50,15 @@ impl<K: Ord, V> Map<K, V> {
         }
     }
 
+    /// The empty map, with room for `count` entries in one piece, or for fewer where there are many. It fails only for
+    /// want of memory.
+    pub fn with_room(alloc: Global, count: usize) -> Mem<Map<K, V>>
+        ensures { IfOk result (λ m. m ≡ []) }
+    {
+        let map = Entries::with_room(alloc, count)?;
+        Ok(Map { alloc, map })
+    }
+
     /// How many entries the map has.
     pub fn len(&self) -> usize
         ensures count { result ≡ length self.now }

@@ -173,6 +173,26 @@ impl InternalName {
         Ok(self.moved_to(namespace))
     }
 
+    /// A copy of the name as `qualify_within` gives it.
+    pub fn dup_within(&self, alloc: Global, ns: Option<&Namespace>) -> Mem<InternalName>
+        ensures { IfOk result (λ n. n ≡ qualified_in self.now (option_copied ns.entry)) }
+    {
+        let Some(outer) = ns else {
+            return self.dup(alloc);
+        };
+        if !self.is_unqualified() {
+            return self.dup(alloc);
+        }
+        let basename = self.basename.dup(alloc)?;
+        let namespace = outer.dup(alloc)?;
+        let loc = self.loc.dup(alloc)?;
+        Ok(InternalName {
+            basename,
+            namespace,
+            loc,
+        })
+    }
+
     /// The same basename and place in this namespace.
     fn moved_to(self, namespace: Namespace) -> InternalName
         ensures { result ≡ internal_name (basename_of self) namespace (loc_of self) }

@@ -1,4 +1,5 @@
 -- SPDX-License-Identifier: Apache-2.0
+pub mod Depths
 pub mod FirstRefusal
 pub mod Found
 pub mod Goes

@@ -42,4 +42,9 @@ conditional-in ns outer kind raw held =
     let n = written raw in
     ap (λ (o : Option (List Id)). conditional_in o kind raw) held ∙ ap (reference raw kind) (same_in ns n.basename n.namespace n.loc)
 
+-- within the identifiers of a name, a name is the same as within that name
+pub qualified-in : (ns : Option InternalName) (n : InternalName) → qualified_in n (ids_of ns) ≡ qualified n ns
+qualified-in None n = refl
+qualified-in (Some ns) n = refl
+
 pub ruleset possible = (possibilities-first, possibilities-from, conditional-in)

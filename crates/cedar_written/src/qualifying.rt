@@ -2,6 +2,7 @@
 ghost use Rattle.std.specs.Prelude.{◌≡◌, IfOk, unwrap_or};
 ghost use Rattle.std.specs.Coded.{Coded-set};
 ghost use Rattle.std.specs.Option.{option_copied};
+ghost use Rattle.cedar_names.specs.Components.{qualified};
 ghost use Rattle.cedar_written.specs.Answers.{Answers, Makes};
 ghost use Rattle.cedar_written.specs.Bare.{bare_type};
 ghost use Rattle.cedar_written.specs.Possibilities.{conditional, ids_of};
@@ -42,6 +43,13 @@ impl<'a> Qualifying<'a> {
     {
         let within = namespace_within(alloc, namespace)?;
         Ok(Qualifying { namespace, within })
+    }
+
+    /// The name within the namespace, whose memory it shares, unless it has a namespace already.
+    pub fn qualified(&self, alloc: Global, name: InternalName) -> Mem<InternalName>
+        ensures { IfOk result (λ n. n ≡ qualified name (option_copied self.now.namespace)) }
+    {
+        name.qualify_within(alloc, self.within.as_ref())
     }
 
     /// The name with the full names that it may stand for in the namespace, at a place of this kind.

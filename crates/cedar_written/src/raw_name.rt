@@ -154,7 +154,7 @@ fn possibilities(
     ensures { IfOk result (λ names. names ≡ possibilities_in (option_copied ns.entry) name.now) }
 {
     let tail = other_possibilities(alloc, name, ns)?;
-    let head = name.dup(alloc)?.qualify_within(alloc, ns)?;
+    let head = name.dup_within(alloc, ns)?;
     Ok(NonEmpty { head, tail })
 }
 

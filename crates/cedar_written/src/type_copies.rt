@@ -87,7 +87,7 @@ fn dup_attributes<N: Dup + Drop>(
 ) -> Mem<Map<Text, TypeOfAttribute<N>>>
     ensures { IfOk result (λ copy. copy ≡ attributes.now) }
 {
-    let mut copies = Map::new(alloc);
+    let mut copies = Map::with_room(alloc, attributes.len())?;
     for (name, attribute) in attributes.iter() {
         let name = name.dup(alloc)?;
         let attribute = attribute.dup(alloc)?;

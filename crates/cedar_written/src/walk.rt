@@ -96,7 +96,7 @@ fn walk_attributes<N: Drop, S: Step<N>>(
 ) -> Out<Map<Text, TypeOfAttribute<S::Made>>, S::Refusal>
     ensures { Answers result (through_attributes (S.step step.now) attributes) }
 {
-    let mut made = Map::new(alloc);
+    let mut made = Map::with_room(alloc, attributes.len())?;
     for (name, attribute) in attributes.into_entries() {
         let attribute = walk_attribute(alloc, step, attribute)?;
         made.push_last(name, attribute)?;

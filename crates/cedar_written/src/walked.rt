@@ -36,7 +36,7 @@ pub fn walk_names<N: Drop, S: Step<N>>(
 ) -> Out<Items<S::Made>, S::Refusal>
     ensures { Answers result (through_names (S.step step.now) kind names) }
 {
-    let mut made = Items::new(alloc);
+    let mut made = Items::with_room(alloc, names.len())?;
     for name in names.into_vec() {
         let name = step.go(alloc, kind, name)?;
         made.push(name)?;
@@ -68,7 +68,7 @@ impl<N, S: Step<N>, T: Walk<N, S> + Drop> Walk<N, S> for Items<T> {
 
     #[tactic(auto, using(crate::proofs::Goes::goes))]
     fn walk(self, alloc: Global, step: &S) -> Out<Items<T::Full>, S::Refusal> {
-        let mut made = Items::new(alloc);
+        let mut made = Items::with_room(alloc, self.len())?;
         for item in self.into_vec() {
             let item = item.walk(alloc, step)?;
             made.push(item)?;
@@ -84,7 +84,7 @@ impl<N, S: Step<N>, K: Ord + Drop, T: Walk<N, S> + Drop> Walk<N, S> for Map<K, T
 
     #[tactic(auto, using(crate::proofs::Goes::goes))]
     fn walk(self, alloc: Global, step: &S) -> Out<Map<K, T::Full>, S::Refusal> {
-        let mut made = Map::new(alloc);
+        let mut made = Map::with_room(alloc, self.len())?;
         for (key, value) in self.into_entries() {
             let value = value.walk(alloc, step)?;
             made.push_last(key, value)?;
