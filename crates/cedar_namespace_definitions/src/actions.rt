@@ -21,10 +21,10 @@ use crate::sets::set_of;
 use cedar_data::{Dup, Items, Map, Mem, Out, Set, Text};
 use cedar_definitions::{ActionFragment, ActionsDef, ValidatorApplySpec};
 use cedar_fragment::{
-    ActionType, ApplySpec, AttributesOrContext, ConditionalName, RawName, RefName, SchemaType,
-    ValueMap,
+    ActionType, ApplySpec, AttributesOrContext, ConditionalName, Qualifying, RawName, RefName,
+    SchemaType, ValueMap, walk_unrefused,
 };
-use cedar_names::{EntityUID, InternalName};
+use cedar_names::EntityUID;
 use cedar_schema_error::SchemaError;
 use cedar_text::Loc;
 use cedar_types::Attributes;
@@ -104,41 +104,41 @@ fn action_made<N: RefName + Ord + Drop>(
 /// The id of an action of the namespace, at its place; refused where the namespace has `__cedar`.
 fn action_id(
     alloc: Global,
-    namespace: Option<&InternalName>,
+    step: &Qualifying<'_>,
     id: Text,
     action: &ActionType<RawName>,
 ) -> Out<EntityUID, SchemaError>
     ensures key { IfOk result (λ uid. action_key uid
-        ≡ action_at (option_copied namespace.entry) id action.now.loc) }
+        ≡ action_at (option_copied step.now.namespace) id action.now.loc) }
     ensures ok { IfOk result
-        (λ _. reserved_in (option_copied namespace.entry)
-        (components (action_type_in (option_copied namespace.entry))) ≡ []) }
+        (λ _. reserved_in (option_copied step.now.namespace)
+        (components (action_type_in (option_copied step.now.namespace))) ≡ []) }
     ensures refused { IfRefused result (λ e. IsFirst
-        (reserved_in (option_copied namespace.entry)
-        (components (action_type_in (option_copied namespace.entry)))) (told e)) }
+        (reserved_in (option_copied step.now.namespace)
+        (components (action_type_in (option_copied step.now.namespace)))) (told e)) }
 {
     let loc = action.loc.dup(alloc)?;
-    action_at(alloc, namespace, id, loc)
+    action_at(alloc, step, id, loc)
 }
 
 /// The id of an action of the namespace, and the types of its attributes; refused with the first fault.
 #[tactic(auto, using(crate::proofs::Faultless::firsts, crate::proofs::ActionLoops::ids), unfolding(crate::specs::Faults::action_faults))]
 fn action_head(
     alloc: Global,
-    namespace: Option<&InternalName>,
+    step: &Qualifying<'_>,
     id: Text,
     action: &ActionType<RawName>,
 ) -> Out<(EntityUID, Attributes), SchemaError>
     ensures key { IfOk result (λ made. action_key made.0
-        ≡ action_at (option_copied namespace.entry) id action.now.loc) }
+        ≡ action_at (option_copied step.now.namespace) id action.now.loc) }
     ensures types { IfOk result (λ made. made.1 ≡ types_in action.now.attributes) }
     ensures ok { IfOk result
-        (λ _. action_faults (option_copied namespace.entry) (id, action.now) ≡ []) }
+        (λ _. action_faults (option_copied step.now.namespace) (id, action.now) ≡ []) }
     ensures refused { IfRefused result
-        (λ e. IsFirst (action_faults (option_copied namespace.entry) (id, action.now))
+        (λ e. IsFirst (action_faults (option_copied step.now.namespace) (id, action.now))
         (told e)) }
 {
-    let uid = action_id(alloc, namespace, id, action)?;
+    let uid = action_id(alloc, step, id, action)?;
     let types = types_in(alloc, &uid, &action.attributes)?;
     Ok((uid, types))
 }
@@ -147,22 +147,22 @@ fn action_head(
 #[tactic(auto, using(crate::proofs::Sure::is_sure))]
 fn fragment_of(
     alloc: Global,
-    namespace: Option<&InternalName>,
+    step: &Qualifying<'_>,
     attribute_types: Attributes,
     action: ActionType<RawName>,
 ) -> Mem<ActionFragment<ConditionalName, ConditionalName>>
     ensures { IfOk result (λ made. made ≡ action_made conditional_cmp attribute_types
         (sure (through_action over_raw over_conditional
-        (qualifying (option_copied namespace.entry)) action))) }
+        (qualifying (option_copied step.now.namespace)) action))) }
 {
-    let action = action.conditionally_qualify_type_references(alloc, namespace)?;
+    let action = walk_unrefused(alloc, step, action)?;
     action_made(alloc, attribute_types, action)
 }
 
 /// Puts an action of this id to the others, with attributes of these types.
 fn put_action(
     alloc: Global,
-    namespace: Option<&InternalName>,
+    step: &Qualifying<'_>,
     made: &mut Map<EntityUID, ActionFragment<ConditionalName, ConditionalName>>,
     uid: EntityUID,
     attribute_types: Attributes,
@@ -172,9 +172,9 @@ fn put_action(
         ≡ insert_entry action_key_cmp (with_keys action_key made.old) (action_key uid)
         (action_made conditional_cmp attribute_types
         (sure (through_action over_raw over_conditional
-        (qualifying (option_copied namespace.entry)) action)))) }
+        (qualifying (option_copied step.now.namespace)) action)))) }
 {
-    let fragment = fragment_of(alloc, namespace, attribute_types, action)?;
+    let fragment = fragment_of(alloc, step, attribute_types, action)?;
     made.put(uid, fragment)?;
     Ok(())
 }
@@ -183,21 +183,21 @@ fn put_action(
 #[tactic(auto, unfolding(crate::specs::Definitions::action_made_in))]
 fn declare_action(
     alloc: Global,
-    namespace: Option<&InternalName>,
+    step: &Qualifying<'_>,
     made: &mut Map<EntityUID, ActionFragment<ConditionalName, ConditionalName>>,
     id: Text,
     action: ActionType<RawName>,
 ) -> Out<(), SchemaError>
     ensures puts { OnOk result (with_keys action_key made.new
         ≡ insert_entry action_key_cmp (with_keys action_key made.old)
-        (action_in (option_copied namespace.entry) (id, action)).0
-        (action_in (option_copied namespace.entry) (id, action)).1) }
-    ensures ok { OnOk result (action_faults (option_copied namespace.entry) (id, action) ≡ []) }
+        (action_in (option_copied step.now.namespace) (id, action)).0
+        (action_in (option_copied step.now.namespace) (id, action)).1) }
+    ensures ok { OnOk result (action_faults (option_copied step.now.namespace) (id, action) ≡ []) }
     ensures refused { IfRefused result
-        (λ e. IsFirst (action_faults (option_copied namespace.entry) (id, action)) (told e)) }
+        (λ e. IsFirst (action_faults (option_copied step.now.namespace) (id, action)) (told e)) }
 {
-    let (uid, types) = action_head(alloc, namespace, id, &action)?;
-    put_action(alloc, namespace, made, uid, types, action)?;
+    let (uid, types) = action_head(alloc, step, id, &action)?;
+    put_action(alloc, step, made, uid, types, action)?;
     Ok(())
 }
 
@@ -205,20 +205,20 @@ fn declare_action(
 #[tactic(auto, using(crate::proofs::ActionLoops::actions, crate::proofs::Faultless::faultless))]
 pub(crate) fn actions_in(
     alloc: Global,
-    namespace: Option<&InternalName>,
+    step: &Qualifying<'_>,
     actions: Map<Text, ActionType<RawName>>,
 ) -> Out<ActionsDef<ConditionalName, ConditionalName>, SchemaError>
     ensures made { IfOk result (λ made. with_keys action_key made.actions
-        ≡ map (action_in (option_copied namespace.entry)) actions) }
+        ≡ map (action_in (option_copied step.now.namespace)) actions) }
     ensures ok { IfOk result
-        (λ _. flat_map (action_faults (option_copied namespace.entry)) actions ≡ []) }
+        (λ _. flat_map (action_faults (option_copied step.now.namespace)) actions ≡ []) }
     ensures refused { IfRefused result
-        (λ e. IsFirst (flat_map (action_faults (option_copied namespace.entry)) actions)
+        (λ e. IsFirst (flat_map (action_faults (option_copied step.now.namespace)) actions)
         (told e)) }
 {
-    let mut made = Map::new(alloc);
+    let mut made = Map::with_room(alloc, actions.len())?;
     for (id, action) in actions.into_entries() {
-        declare_action(alloc, namespace, &mut made, id, action)?;
+        declare_action(alloc, step, &mut made, id, action)?;
     }
     Ok(ActionsDef { actions: made })
 }

@@ -16,8 +16,11 @@ use crate::names::entity_type_at;
 use crate::sets::set_of;
 use cedar_data::{Dup, Map, Mem, Out};
 use cedar_definitions::{EntityTypeFragment, EntityTypesDef};
-use cedar_fragment::{ConditionalName, EntityType, EntityTypeKind, RawName, StandardEntityType};
-use cedar_names::{InternalName, UnreservedId};
+use cedar_fragment::{
+    ConditionalName, EntityType, EntityTypeKind, Qualifying, RawName, StandardEntityType,
+    walk_unrefused,
+};
+use cedar_names::UnreservedId;
 use cedar_schema_error::SchemaError;
 use cedar_text::Loc;
 use std::alloc::Global;
@@ -56,17 +59,17 @@ fn kind_made<N: Ord + Drop>(alloc: Global, kind: EntityTypeKind<N>) -> Mem<Entit
 #[tactic(auto, using(crate::proofs::Sure::is_sure), unfolding(crate::specs::Definitions::entity_made))]
 fn entity_made(
     alloc: Global,
-    namespace: Option<&InternalName>,
+    step: &Qualifying<'_>,
     entity_type: EntityType<RawName>,
 ) -> Mem<EntityTypeFragment<ConditionalName>>
     ensures { IfOk result (λ made. made
-        ≡ entity_made (option_copied namespace.entry) entity_type) }
+        ≡ entity_made (option_copied step.now.namespace) entity_type) }
 {
     let EntityType {
         kind,
         annotations: _,
         loc: _,
-    } = entity_type.conditionally_qualify_type_references(alloc, namespace)?;
+    } = walk_unrefused(alloc, step, entity_type)?;
     kind_made(alloc, kind)
 }
 
@@ -119,7 +122,7 @@ fn put_placed<V: Drop>(
 /// where it has one; refused where the namespace has `__cedar`.
 fn put_named<V: Drop>(
     alloc: Global,
-    namespace: Option<&InternalName>,
+    step: &Qualifying<'_>,
     defs: &mut Map<cedar_names::EntityType, V>,
     locs: &mut Map<cedar_names::EntityType, Loc>,
     id: UnreservedId,
@@ -127,19 +130,19 @@ fn put_named<V: Drop>(
 ) -> Out<(), SchemaError>
     ensures defs { OnOk result (with_keys entity_key defs.new
         ≡ insert_entry internal_cmp (with_keys entity_key defs.old)
-        (name_at (option_copied namespace.entry) id placed.1) placed.0) }
+        (name_at (option_copied step.now.namespace) id placed.1) placed.0) }
     ensures locs { OnOk result (with_keys entity_key locs.new
         ≡ put_entries internal_cmp (with_keys entity_key locs.old)
-        (entry_of (name_at (option_copied namespace.entry) id placed.1) placed.1)) }
+        (entry_of (name_at (option_copied step.now.namespace) id placed.1) placed.1)) }
     ensures ok { OnOk result
-        (reserved_in (option_copied namespace.entry)
-        (components (name_at (option_copied namespace.entry) id placed.1)) ≡ []) }
+        (reserved_in (option_copied step.now.namespace)
+        (components (name_at (option_copied step.now.namespace) id placed.1)) ≡ []) }
     ensures refused { IfRefused result (λ e. IsFirst
-        (reserved_in (option_copied namespace.entry)
-        (components (name_at (option_copied namespace.entry) id placed.1))) (told e)) }
+        (reserved_in (option_copied step.now.namespace)
+        (components (name_at (option_copied step.now.namespace) id placed.1))) (told e)) }
 {
     let loc = placed.1.dup(alloc)?;
-    let name = entity_type_at(alloc, namespace, id, loc)?;
+    let name = entity_type_at(alloc, step, id, loc)?;
     put_placed(alloc, defs, locs, name, placed)?;
     Ok(())
 }
@@ -147,14 +150,14 @@ fn put_named<V: Drop>(
 /// What an entity type is, with its place where it has one.
 fn placed(
     alloc: Global,
-    namespace: Option<&InternalName>,
+    step: &Qualifying<'_>,
     entity_type: EntityType<RawName>,
 ) -> Mem<(EntityTypeFragment<ConditionalName>, Option<Loc>)>
     ensures { IfOk result (λ made. made
-        ≡ (entity_made (option_copied namespace.entry) entity_type, entity_type.loc)) }
+        ≡ (entity_made (option_copied step.now.namespace) entity_type, entity_type.loc)) }
 {
     let loc = place_of(alloc, &entity_type)?;
-    let fragment = entity_made(alloc, namespace, entity_type)?;
+    let fragment = entity_made(alloc, step, entity_type)?;
     Ok((fragment, loc))
 }
 
@@ -162,7 +165,7 @@ fn placed(
 #[tactic(auto, unfolding(crate::specs::Faults::entity_faults))]
 fn declare_entity_type(
     alloc: Global,
-    namespace: Option<&InternalName>,
+    step: &Qualifying<'_>,
     defs: &mut Map<cedar_names::EntityType, EntityTypeFragment<ConditionalName>>,
     locs: &mut Map<cedar_names::EntityType, Loc>,
     id: UnreservedId,
@@ -170,39 +173,39 @@ fn declare_entity_type(
 ) -> Out<(), SchemaError>
     ensures defs { OnOk result (with_keys entity_key defs.new
         ≡ put_entries internal_cmp (with_keys entity_key defs.old)
-        (entity_in (option_copied namespace.entry) (id, entity_type) ∷ [])) }
+        (entity_in (option_copied step.now.namespace) (id, entity_type) ∷ [])) }
     ensures locs { OnOk result (with_keys entity_key locs.new
         ≡ put_entries internal_cmp (with_keys entity_key locs.old)
-        (entity_place (option_copied namespace.entry) (id, entity_type))) }
+        (entity_place (option_copied step.now.namespace) (id, entity_type))) }
     ensures ok { OnOk result
-        (entity_faults (option_copied namespace.entry) (id, entity_type) ≡ []) }
+        (entity_faults (option_copied step.now.namespace) (id, entity_type) ≡ []) }
     ensures refused { IfRefused result
-        (λ e. IsFirst (entity_faults (option_copied namespace.entry) (id, entity_type))
+        (λ e. IsFirst (entity_faults (option_copied step.now.namespace) (id, entity_type))
         (told e)) }
 {
-    let placed = placed(alloc, namespace, entity_type)?;
-    put_named(alloc, namespace, defs, locs, id, placed)
+    let placed = placed(alloc, step, entity_type)?;
+    put_named(alloc, step, defs, locs, id, placed)
 }
 
 /// The entity types under their full names in the namespace, in order; refused with the first fault.
 #[tactic(auto, using(crate::proofs::Loops::entity_types, crate::proofs::Faultless::faultless))]
 pub(crate) fn entity_types_in(
     alloc: Global,
-    namespace: Option<&InternalName>,
+    step: &Qualifying<'_>,
     entity_types: Map<UnreservedId, EntityType<RawName>>,
 ) -> Out<EntityTypesDef<ConditionalName>, SchemaError>
     ensures made { IfOk result
-        (λ made. AreEntityTypes (option_copied namespace.entry) entity_types made) }
+        (λ made. AreEntityTypes (option_copied step.now.namespace) entity_types made) }
     ensures ok { IfOk result
-        (λ _. flat_map (entity_faults (option_copied namespace.entry)) entity_types ≡ []) }
+        (λ _. flat_map (entity_faults (option_copied step.now.namespace)) entity_types ≡ []) }
     ensures refused { IfRefused result
-        (λ e. IsFirst (flat_map (entity_faults (option_copied namespace.entry)) entity_types)
+        (λ e. IsFirst (flat_map (entity_faults (option_copied step.now.namespace)) entity_types)
         (told e)) }
 {
-    let mut defs = Map::new(alloc);
-    let mut locs = Map::new(alloc);
+    let mut defs = Map::with_room(alloc, entity_types.len())?;
+    let mut locs = Map::with_room(alloc, entity_types.len())?;
     for (id, entity_type) in entity_types.into_entries() {
-        declare_entity_type(alloc, namespace, &mut defs, &mut locs, id, entity_type)?;
+        declare_entity_type(alloc, step, &mut defs, &mut locs, id, entity_type)?;
     }
     Ok(EntityTypesDef { defs, locs })
 }

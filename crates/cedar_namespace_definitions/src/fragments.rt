@@ -70,7 +70,7 @@ fn definitions_in(
     ensures refused { IfRefused result
         (λ e. IsFirst (fragment_faults action_behavior fragment) (told e)) }
 {
-    let mut definitions = Vec::new(alloc);
+    let mut definitions = Vec::with_capacity(alloc, fragment.0.len())?;
     for (name, namespace_def) in fragment.0.into_entries() {
         let definition = namespace_defined(alloc, &name, namespace_def, action_behavior)?;
         definitions.push(definition)?;

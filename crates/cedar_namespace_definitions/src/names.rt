@@ -13,21 +13,20 @@ use cedar_data::{Failure, Mem, Out, Text};
 use cedar_names::{Eid, EntityType, EntityUID, InternalName, Name, UnreservedId};
 use cedar_schema_error::SchemaError;
 use cedar_text::Loc;
-use cedar_written::type_or_action;
+use cedar_written::{Qualifying, type_or_action};
 use std::alloc::Global;
 
 /// The name of an identifier in the namespace, at this place.
 pub(crate) fn name_at(
     alloc: Global,
-    namespace: Option<&InternalName>,
+    step: &Qualifying<'_>,
     id: UnreservedId,
     loc: Option<Loc>,
 ) -> Mem<InternalName>
-    ensures { IfOk result (λ n. n ≡ name_at (option_copied namespace.entry) id loc) }
+    ensures { IfOk result (λ n. n ≡ name_at (option_copied step.now.namespace) id loc) }
 {
     let name = InternalName::unqualified_name(alloc, id.into_id(), loc);
-    let name = name.qualify_with(alloc, namespace)?;
-    Ok(name)
+    step.qualified(alloc, name)
 }
 
 /// The entity type of this name; refused where a component of it is `__cedar`. It takes no memory.
@@ -47,20 +46,20 @@ fn entity_type(name: InternalName) -> Out<EntityType, SchemaError>
 #[tactic(auto, using(crate::proofs::Reserved::reserved))]
 pub(crate) fn entity_type_at(
     alloc: Global,
-    namespace: Option<&InternalName>,
+    step: &Qualifying<'_>,
     id: UnreservedId,
     loc: Option<Loc>,
 ) -> Out<EntityType, SchemaError>
     ensures key { IfOk result (λ ty. entity_key ty
-        ≡ name_at (option_copied namespace.entry) id loc) }
+        ≡ name_at (option_copied step.now.namespace) id loc) }
     ensures ok { IfOk result
-        (λ _. reserved_in (option_copied namespace.entry)
-        (components (name_at (option_copied namespace.entry) id loc)) ≡ []) }
+        (λ _. reserved_in (option_copied step.now.namespace)
+        (components (name_at (option_copied step.now.namespace) id loc)) ≡ []) }
     ensures refused { IfRefused result (λ e. IsFirst
-        (reserved_in (option_copied namespace.entry)
-        (components (name_at (option_copied namespace.entry) id loc))) (told e)) }
+        (reserved_in (option_copied step.now.namespace)
+        (components (name_at (option_copied step.now.namespace) id loc))) (told e)) }
 {
-    let name = name_at(alloc, namespace, id, loc)?;
+    let name = name_at(alloc, step, id, loc)?;
     entity_type(name)
 }
 
@@ -68,21 +67,22 @@ pub(crate) fn entity_type_at(
 #[tactic(auto, using(crate::proofs::Reserved::reserved))]
 pub(crate) fn action_at(
     alloc: Global,
-    namespace: Option<&InternalName>,
+    step: &Qualifying<'_>,
     id: Text,
     loc: Option<Loc>,
 ) -> Out<EntityUID, SchemaError>
     ensures key { IfOk result (λ uid. action_key uid
-        ≡ action_at (option_copied namespace.entry) id loc) }
+        ≡ action_at (option_copied step.now.namespace) id loc) }
     ensures ok { IfOk result
-        (λ _. reserved_in (option_copied namespace.entry)
-        (components (action_type_in (option_copied namespace.entry))) ≡ []) }
+        (λ _. reserved_in (option_copied step.now.namespace)
+        (components (action_type_in (option_copied step.now.namespace))) ≡ []) }
     ensures refused { IfRefused result (λ e. IsFirst
-        (reserved_in (option_copied namespace.entry)
-        (components (action_type_in (option_copied namespace.entry)))) (told e)) }
+        (reserved_in (option_copied step.now.namespace)
+        (components (action_type_in (option_copied step.now.namespace)))) (told e)) }
 {
     let name = type_or_action(alloc, None)?;
-    let name = name.qualify_with(alloc, namespace)?;
+    let name = name.qualify_with(alloc, None)?;
+    let name = step.qualified(alloc, name)?;
     let ty = entity_type(name)?;
     Ok(EntityUID::from_components(ty, Eid::new(id), loc))
 }

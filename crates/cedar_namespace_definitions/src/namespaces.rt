@@ -15,7 +15,9 @@ use crate::common_types::common_types_in;
 use crate::entity_types::entity_types_in;
 use cedar_data::{Dup, Failure, Map, Mem, Out, Text};
 use cedar_definitions::{ActionsDef, EntityTypesDef, ValidatorNamespaceDef};
-use cedar_fragment::{ActionType, ConditionalName, EntityType, NamespaceDefinition, RawName};
+use cedar_fragment::{
+    ActionType, ConditionalName, EntityType, NamespaceDefinition, Qualifying, RawName,
+};
 use cedar_names::{Extensions, InternalName, UnreservedId};
 use cedar_schema_error::{ActionBehavior, ActionEntityTypeDeclaredError, SchemaError};
 use std::alloc::Global;
@@ -67,7 +69,7 @@ fn check_declarations(
 #[tactic(auto, using(crate::proofs::Faultless::firsts))]
 fn types_and_actions(
     alloc: Global,
-    namespace: Option<&InternalName>,
+    step: &Qualifying<'_>,
     entity_types: Map<UnreservedId, EntityType<RawName>>,
     actions: Map<Text, ActionType<RawName>>,
 ) -> Out<
@@ -78,17 +80,18 @@ fn types_and_actions(
     SchemaError,
 >
     ensures entity_types { IfOk result
-        (λ made. AreEntityTypes (option_copied namespace.entry) entity_types made.0) }
+        (λ made. AreEntityTypes (option_copied step.now.namespace) entity_types made.0) }
     ensures actions { IfOk result (λ made. with_keys action_key made.1.actions
-        ≡ map (action_in (option_copied namespace.entry)) actions) }
-    ensures ok { IfOk result (λ _. flat_map (action_faults (option_copied namespace.entry)) actions
-        ++ flat_map (entity_faults (option_copied namespace.entry)) entity_types ≡ []) }
+        ≡ map (action_in (option_copied step.now.namespace)) actions) }
+    ensures ok { IfOk result
+        (λ _. flat_map (action_faults (option_copied step.now.namespace)) actions
+        ++ flat_map (entity_faults (option_copied step.now.namespace)) entity_types ≡ []) }
     ensures refused { IfRefused result
-        (λ e. IsFirst (flat_map (action_faults (option_copied namespace.entry)) actions
-        ++ flat_map (entity_faults (option_copied namespace.entry)) entity_types) (told e)) }
+        (λ e. IsFirst (flat_map (action_faults (option_copied step.now.namespace)) actions
+        ++ flat_map (entity_faults (option_copied step.now.namespace)) entity_types) (told e)) }
 {
-    let actions = actions_in(alloc, namespace, actions)?;
-    let entity_types = entity_types_in(alloc, namespace, entity_types)?;
+    let actions = actions_in(alloc, step, actions)?;
+    let entity_types = entity_types_in(alloc, step, entity_types)?;
     Ok((entity_types, actions))
 }
 
@@ -125,8 +128,9 @@ fn each_defined(
         actions,
         annotations: _,
     } = namespace_def;
-    let (entity_types, actions) = types_and_actions(alloc, namespace, entity_types, actions)?;
-    let common_types = common_types_in(alloc, namespace, common_types)?;
+    let step = Qualifying::new(alloc, namespace)?;
+    let (entity_types, actions) = types_and_actions(alloc, &step, entity_types, actions)?;
+    let common_types = common_types_in(alloc, &step, common_types)?;
     let namespace = namespace_copied(alloc, namespace)?;
     Ok(ValidatorNamespaceDef {
         namespace,

@@ -8,5 +8,5 @@ use Rattle.cedar_namespace_definitions.proofs.actions.actions_in.Given as goal
 -- the actions so far have no faults, and are defined
 abbrev pub invariant-loop-id : goal.invariant-loop-id
 invariant-loop-id l =
-    Faultless (action_faults (option_copied l.fn.namespace)) l.fn.actions l.id-iterator
-    × Actions (option_copied l.fn.namespace) l.fn.actions l.id-iterator l.made
+    Faultless (action_faults (option_copied l.fn.step.namespace)) l.fn.actions l.id-iterator
+    × Actions (option_copied l.fn.step.namespace) l.fn.actions l.id-iterator l.made

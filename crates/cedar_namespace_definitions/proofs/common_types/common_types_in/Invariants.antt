@@ -5,4 +5,4 @@ use Rattle.cedar_namespace_definitions.proofs.common_types.common_types_in.Given
 
 -- the common types so far are defined
 abbrev pub invariant-loop-id : goal.invariant-loop-id
-invariant-loop-id l = CommonTypes (option_copied l.fn.namespace) l.fn.common_types l.id-iterator l.defs
+invariant-loop-id l = CommonTypes (option_copied l.fn.step.namespace) l.fn.common_types l.id-iterator l.defs

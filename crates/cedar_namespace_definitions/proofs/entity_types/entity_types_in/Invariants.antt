@@ -8,5 +8,5 @@ use Rattle.cedar_namespace_definitions.proofs.entity_types.entity_types_in.Given
 -- the entity types so far have no faults, and are defined
 abbrev pub invariant-loop-id : goal.invariant-loop-id
 invariant-loop-id l =
-    Faultless (entity_faults (option_copied l.fn.namespace)) l.fn.entity_types l.id-iterator
-    × EntityTypes (option_copied l.fn.namespace) l.fn.entity_types l.id-iterator l.defs l.locs
+    Faultless (entity_faults (option_copied l.fn.step.namespace)) l.fn.entity_types l.id-iterator
+    × EntityTypes (option_copied l.fn.step.namespace) l.fn.entity_types l.id-iterator l.defs l.locs

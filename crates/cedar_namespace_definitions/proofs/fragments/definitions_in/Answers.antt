@@ -31,7 +31,7 @@ loop-name-preserved-in_ok-push-2 c = (
 
 pub returns-in_err-definition-clause-refused : goal.returns-in_err-definition-clause-refused
 returns-in_err-definition-clause-refused c =
-    Faultless-refuses (c.in-Some.name, c.in-Some.namespace_def) told c.from_residual.result c.loop-name.invariant.0 c.in-Some.ensures.steps (search rules)
+    Faultless-refuses (c.in-Some.name, c.in-Some.namespace_def) told c.from_residual-in_err-definition.result c.loop-name.invariant.0 c.in-Some.ensures.steps (search rules)
 
 pub returns-clause-made : goal.returns-clause-made
 returns-clause-made c = Aligned-end (λ n d. IsDefinitionOf (option_map internal_of n.0) n.1 d) c.loop-name.invariant.1 (search rules)
