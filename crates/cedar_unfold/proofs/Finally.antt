@@ -12,14 +12,14 @@ use Rattle.cedar_names.specs.declared.internal_name.InternalName.{InternalName}
 use Rattle.cedar_schema_error.specs.FullNames.{FullName}
 use Rattle.cedar_schema_error.specs.Refusals.{Refusal, UsePlace}
 use Rattle.cedar_text.specs.Words.{has_word}
-use Rattle.cedar_unfold.specs.Full.{AreFaultless, IsFull, IsReady, UsesOf, job_of, meanings_of}
+use Rattle.cedar_unfold.specs.Full.{AreFaultless, IsFull, UsesOf, job_of, meanings_of}
 use Rattle.cedar_unfold.specs.Meanings.{Meanings, full_meanings}
 use Rattle.cedar_unfold.specs.Passing.{DefinitionsPass, DefinitionsRefuse, GivesUse, HasSome, HasType, LacksType}
 use Rattle.cedar_unfold.specs.Resolved.{Resolved}
 use Rattle.cedar_unfold.specs.Tables.{by_name, names_of}
 use Rattle.cedar_unfold.specs.UnfoldPhases.{Job, UnfoldsWithin, UsePasses, UseRefuses, Unfoldable, WhyNotUnfoldable, IsUnfolded}
 use Rattle.cedar_unfold.specs.Written.{Written}
-use Rattle.cedar_unfold.proofs.FillSteps.{names-in_order, names-same}
+use Rattle.cedar_unfold.proofs.FillSteps.{names-in_order}
 use Rattle.cedar_unfold.proofs.Gathering.{zip-map, zip-pass}
 use Rattle.cedar_unfold.proofs.NameTables.{keys_of-by_name}
 use Rattle.cedar_unfold.proofs.Phases.{all_pass, at_cycles, at_faults, at_depths, at_uses}
@@ -40,11 +40,8 @@ module _ {V : Type 0} (w : V → Written FullName) (defs : List (InternalName ×
 
   module _ (pass : DefinitionsPass definitions extensions) {table : FullName → Option (Option Resolved)}
       (fills : (is_extension : List ℕ → Bool) → AreFaultless (full_meanings definitions is_extension) → IsFull (full_meanings definitions is_extension) table) where
-    full : IsFull m table
+    pub full : IsFull m table
     full = fills (has_word (extension_words extensions)) pass.1
-
-    pub ready : IsReady (names_of keys) extensions table definitions
-    ready = record { named = names-same w defs keys is_keys; full = full }
 
     pub commons-refused : (e : Refusal) → FirstRefused (HasSome table) (LacksType table) (names_of (keys_of defs)) e → WhyNotUnfoldable job e
     commons-refused e r = at_depths job e pass.0 pass.1

@@ -1,11 +1,14 @@
 -- SPDX-License-Identifier: Apache-2.0
 -- A loop over the attributes of a record, which joins what each unfolds to.
-use Rattle.std.proofs.Common.{◌≡◌, ℕ, Bool, List, [], ◌∷◌, ◌++◌, Option, Some, None, max, refl, sym, ap, ◌∙◌, subst, append_assoc, arith}
+use Rattle.std.proofs.Common.{◌≡◌, ℕ, Bool, true, false, cond, List, [], ◌∷◌, ◌++◌, Option, Some, None, max, refl, sym, ap, ◌∙◌, subst, append_assoc, arith}
 use Rattle.std.proofs.Math.Nat.{max-zero, zero-max}
 use Rattle.std.specs.Cmp.Lexicographic.{slice_cmp}
+use Rattle.std.specs.List.{AllByRecursion}
 use Rattle.std.specs.List.Sorted.{IsStrictlySortedBy}
 use Rattle.std.specs.Map.{keys_of}
 use Rattle.std.specs.Ordering.{nat_cmp}
+use Rattle.std.specs.declared.cmp.Ordering.{Ordering}
+use Rattle.std.specs.declared.cmp.Ordering.TheVariants.{Less}
 use Rattle.cedar_data.proofs.Rebuild.{sorted_next_key}
 use Rattle.cedar_types.specs.declared.ty.AttributeType.{AttributeType}
 use Rattle.cedar_schema_error.specs.FullNames.{FullName}
@@ -58,15 +61,33 @@ keys_push : {V : Type 0} (made : List (List ℕ × V)) (name : List ℕ) (v : V)
 keys_push [] name v = refl
 keys_push (e ∷ es) name v = ap (λ ks. e.0 ∷ ks) (keys_push es name v)
 
+-- what is found, unless a part before nests too deep
+abbrev pub unless_deep : Bool → Option ResolvedAttributes → Option ResolvedAttributes
+unless_deep is_whole found = cond is_whole found None
+
+unless-none : (is_whole : Bool) → unless_deep is_whole None ≡ None
+unless-none true = refl
+unless-none false = refl
+
+-- keys in order are in order without one of them
+all-without : {K : Type 0} (P : K → Type 0) (xs : List K) (y : K) (ys : List K) → AllByRecursion P (xs ++ y ∷ ys) → AllByRecursion P (xs ++ ys)
+all-without P [] y ys all = all.1
+all-without P (x ∷ xs) y ys all = (all.0, all-without P xs y ys all.1)
+
+sorted-without : {K : Type 0} (cmp : K → K → Ordering) (xs : List K) (y : K) (ys : List K) → IsStrictlySortedBy cmp (xs ++ y ∷ ys) → IsStrictlySortedBy cmp (xs ++ ys)
+unfolding IsStrictlySortedBy
+sorted-without cmp [] y ys sorted = sorted.1
+sorted-without cmp (x ∷ xs) y ys sorted = (all-without (λ z. cmp x z ≡ Less) xs y ys sorted.0, sorted-without cmp xs y ys sorted.1)
+
 module _ (table : FullName → Option (Option Resolved)) where
-  -- the attributes up to `after` were joined
-  pub record Joining (ws : WrittenAttributes FullName) (after : Option (List ℕ)) (made : List (List ℕ × AttributeType)) (depth : ℕ) : Type 0 where
-    pub is : joined made (finished_each table (following after ws)) ≡ finished_each table ws
+  -- the attributes up to `after` were joined, those aside that nest too deep; `is_whole` tells that there are none of these
+  pub record Joining (ws : WrittenAttributes FullName) (after : Option (List ℕ)) (made : List (List ℕ × AttributeType)) (depth : ℕ) (is_whole : Bool) : Type 0 where
+    pub is : unless_deep is_whole (joined made (finished_each table (following after ws))) ≡ finished_each table ws
     pub measured : depth ≡ greatest_nest (resolved_map made)
     pub sorted : IsStrictlySortedBy (slice_cmp nat_cmp) (labels ws) → IsStrictlySortedBy (slice_cmp nat_cmp) (keys_of made ++ labels (following after ws))
 
 module _ {table : FullName → Option (Option Resolved)} where
-  pub Joining-start : (ws : WrittenAttributes FullName) (made : List (List ℕ × AttributeType)) → made ≡ [] → Joining table ws None made 0
+  pub Joining-start : (ws : WrittenAttributes FullName) (made : List (List ℕ × AttributeType)) → made ≡ [] → Joining table ws None made 0 true
   Joining-start ws made none =
       let all = following-None ws in
       record {
@@ -75,8 +96,8 @@ module _ {table : FullName → Option (Option Resolved)} where
         sorted = λ ordered. subst (λ m. IsStrictlySortedBy (slice_cmp nat_cmp) (keys_of m ++ labels (following None ws))) (sym none) (subst (λ rest. IsStrictlySortedBy (slice_cmp nat_cmp) (labels rest)) (sym all) ordered);
       }
 
-  module _ {ws : WrittenAttributes FullName} {after : Option (List ℕ)} {made : List (List ℕ × AttributeType)} {depth : ℕ} (name : List ℕ) (t : Written FullName) (required : Bool)
-      (j : Joining table ws after made depth) (ordered : IsStrictlySortedBy (slice_cmp nat_cmp) (labels ws)) (first : first_attribute (following after ws) ≡ Some (name, t, required)) where
+  module _ {ws : WrittenAttributes FullName} {after : Option (List ℕ)} {made : List (List ℕ × AttributeType)} {depth : ℕ} {is_whole : Bool} (name : List ℕ) (t : Written FullName) (required : Bool)
+      (j : Joining table ws after made depth is_whole) (ordered : IsStrictlySortedBy (slice_cmp nat_cmp) (labels ws)) (first : first_attribute (following after ws) ≡ Some (name, t, required)) where
     split : following after ws ≡ attribute name required t (following (Some name) ws)
     split = following-next after ws name t required ordered first
 
@@ -84,23 +105,51 @@ module _ {table : FullName → Option (Option Resolved)} where
     pub Joining-sorted : IsStrictlySortedBy (slice_cmp nat_cmp) (keys_of made ++ name ∷ [])
     Joining-sorted = sorted_next_key (slice_cmp nat_cmp) (keys_of made) refl (ap labels split) refl (j.sorted ordered)
 
-    pub Joining-next : (part : AttributeType) (made' : List (List ℕ × AttributeType)) (depth' : ℕ) → finished table t ≡ Some (resolved part.attr_type) → part.is_required ≡ required → made' ≡ made ++ (name, part) ∷ [] → depth' ≡ max depth (nest (resolved part.attr_type)) → Joining table ws (Some name) made' depth'
+    abbrev rest : WrittenAttributes FullName
+    rest = following (Some name) ws
+
+    in_order : IsStrictlySortedBy (slice_cmp nat_cmp) (labels ws) → IsStrictlySortedBy (slice_cmp nat_cmp) (keys_of made ++ name ∷ labels rest)
+    in_order ordered = subst (λ l. IsStrictlySortedBy (slice_cmp nat_cmp) (keys_of made ++ labels l)) split (j.sorted ordered)
+
+    -- with the next, which is found
+    pub Joining-next : (part : AttributeType) (made' : List (List ℕ × AttributeType)) (depth' : ℕ) → finished table t ≡ Some (resolved part.attr_type) → part.is_required ≡ required → made' ≡ made ++ (name, part) ∷ [] → depth' ≡ max depth (nest (resolved part.attr_type)) → Joining table ws (Some name) made' depth' is_whole
     Joining-next part made' depth' found marked pushed deeper = record {
       is =
-          ap (λ m. joined m (finished_each table (following (Some name) ws))) pushed
-          ∙ sym (joined-part made name part (finished_each table (following (Some name) ws)))
-          ∙ (λ i. joined made (with_attribute name (marked i) (sym found i) (finished_each table (following (Some name) ws))))
-          ∙ ap (λ rest. joined made (finished_each table rest)) (sym split)
+          ap (unless_deep is_whole) (
+          ap (λ m. joined m (finished_each table rest)) pushed
+          ∙ sym (joined-part made name part (finished_each table rest))
+          ∙ (λ i. joined made (with_attribute name (marked i) (sym found i) (finished_each table rest)))
+          ∙ ap (λ l. joined made (finished_each table l)) (sym split))
           ∙ j.is;
       measured = deeper ∙ ap (λ n. max n (nest (resolved part.attr_type))) j.measured ∙ sym (depth-push made name part) ∙ ap (λ m. greatest_nest (resolved_map m)) (sym pushed);
       sorted = λ ordered. subst (λ ks. IsStrictlySortedBy (slice_cmp nat_cmp) ks)
-          (sym (ap (λ m. keys_of m ++ labels (following (Some name) ws)) pushed ∙ ap (λ ks. ks ++ labels (following (Some name) ws)) (keys_push made name part) ∙ append_assoc (keys_of made) (name ∷ []) (labels (following (Some name) ws)) ∙ ap (λ rest. keys_of made ++ labels rest) (sym split)))
-          (j.sorted ordered);
+          (sym (ap (λ m. keys_of m ++ labels rest) pushed ∙ ap (λ ks. ks ++ labels rest) (keys_push made name part) ∙ append_assoc (keys_of made) (name ∷ []) (labels rest)))
+          (in_order ordered);
     }
 
-    -- where one nests too deep, so does the record
-    pub Joining-deep : finished table t ≡ None → finished_each table ws ≡ None
-    Joining-deep found = sym j.is ∙ ap (λ rest. joined made (finished_each table rest)) split ∙ ap (λ f. joined made (with_attribute name required f (finished_each table (following (Some name) ws)))) found ∙ joined-deep made name required (finished_each table (following (Some name) ws))
+    -- with the next, which nests too deep
+    pub Joining-deep : finished table t ≡ None → Joining table ws (Some name) made depth false
+    Joining-deep found = record {
+      is =
+          sym (unless-none is_whole)
+          ∙ ap (unless_deep is_whole) (
+          sym (joined-deep made name required (finished_each table rest))
+          ∙ ap (λ f. joined made (with_attribute name required f (finished_each table rest))) (sym found)
+          ∙ ap (λ l. joined made (finished_each table l)) (sym split))
+          ∙ j.is;
+      measured = j.measured;
+      sorted = λ ordered. sorted-without (slice_cmp nat_cmp) (keys_of made) name (labels rest) (in_order ordered);
+    }
 
-  pub Joining-end : {ws : WrittenAttributes FullName} {after : Option (List ℕ)} {made : List (List ℕ × AttributeType)} {depth : ℕ} → Joining table ws after made depth → first_attribute (following after ws) ≡ None → finished_each table ws ≡ Some (resolved_map made)
-  Joining-end {ws} {after} {made} j ended = sym j.is ∙ ap (λ rest. joined made (finished_each table rest)) (following-end after ws ended) ∙ ap Some (before-all made)
+  module _ {ws : WrittenAttributes FullName} {after : Option (List ℕ)} {made : List (List ℕ × AttributeType)} {depth : ℕ} {is_whole : Bool} (j : Joining table ws after made depth is_whole) where
+    -- all were found
+    pub Joining-end : is_whole ≡ true → first_attribute (following after ws) ≡ None → finished_each table ws ≡ Some (resolved_map made)
+    Joining-end whole ended =
+        sym j.is
+        ∙ ap (λ b. unless_deep b (joined made (finished_each table (following after ws)))) whole
+        ∙ ap (λ rest. joined made (finished_each table rest)) (following-end after ws ended)
+        ∙ ap Some (before-all made)
+
+    -- one nests too deep, and so does the record
+    pub Joining-none : is_whole ≡ false → None ≡ finished_each table ws
+    Joining-none deep = ap (λ b. unless_deep b (joined made (finished_each table (following after ws)))) (sym deep) ∙ j.is

@@ -72,7 +72,8 @@ tabled-other old new key found put n apart =
     ∙ put-other (by_name found_type old) (components key) (found_type found) n apart
 
 module _ (table : List (InternalName × Option Nested)) (name : InternalName) where
-  table_has : (entry : Option (Option Nested)) → entry ≡ get internal_cmp table name → tabled table (components name) ≡ option_map found_type entry
+  -- what a table has of a name
+  pub table_has : (entry : Option (Option Nested)) → entry ≡ get internal_cmp table name → tabled table (components name) ≡ option_map found_type entry
   table_has entry is = get-by_name found_type table name ∙ ap (option_map found_type) (sym is)
 
   -- what a table says of a name that may be that of a common type

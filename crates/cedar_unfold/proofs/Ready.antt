@@ -17,7 +17,7 @@ use Rattle.cedar_unfold.specs.Following.{first_of}
 use Rattle.cedar_unfold.specs.Full.{IsFull}
 use Rattle.cedar_unfold.specs.Meanings.{Meanings, full_meanings, definition_of, is_common}
 use Rattle.cedar_unfold.specs.Resolved.{Resolved, nest, deepest}
-use Rattle.cedar_unfold.specs.Tables.{place_of, is_among}
+use Rattle.cedar_unfold.specs.Tables.{place_of, is_among, is_tabled}
 use Rattle.cedar_unfold.specs.Written.{Written, common_references}
 use Rattle.cedar_unfold.proofs.FollowingLemmas.{same_inside}
 use Rattle.cedar_unfold.proofs.Keeping.{Finishes, finishes, IsKnown}
@@ -59,6 +59,17 @@ module _ (definitions : List (FullName × Written FullName)) (is_extension : Lis
     known n None undefined = inr (undefined, full.missing n undefined)
     known n (Some u) defined = inl (full.done n u defined)
 
+  -- a full table has the common types, and the faults by its names are those by their definitions
+  module _ {table : FullName → Option (Option Resolved)} (full : IsFull m table) where
+    tabled-common : (n : FullName) → is_tabled table n ≡ is_common m n
+    tabled-common n = by_definition (definition_of m n) refl where
+      by_definition : (o : Option (Written FullName)) → definition_of m n ≡ o → is_tabled table n ≡ is_common m n
+      by_definition (Some u) defined = ap is_some (full.done n u defined).is ∙ sym (ap is_some defined)
+      by_definition None undefined = ap is_some (full.missing n undefined) ∙ sym (ap is_some undefined)
+
+    pub faults-full : (t : Written FullName) → faults_by Some (is_tabled table) is_extension t ≡ faults m t
+    faults-full t = λ i. faults_by Some (λ n. tabled-common n i) is_extension t
+
   module _ (sorted : IsStrictlySortedBy words_cmp (keys_of definitions)) where
     among-common : (n : FullName) → is_among (keys_of definitions) n ≡ is_common m n
     among-common n = by_definition (definition_of m n) refl where
@@ -74,7 +85,3 @@ module _ (definitions : List (FullName × Written FullName)) (is_extension : Lis
     -- the names of the common types tell what their definitions do
     pub known-same : is_among (keys_of definitions) ≡ is_common m
     known-same = λ i n. among-common n i
-
-    -- the faults by the names of the common types are those by their definitions
-    pub faults-same : (t : Written FullName) → faults_by Some (is_among (keys_of definitions)) is_extension t ≡ faults m t
-    faults-same t = ap (λ known. faults_by Some known is_extension t) known-same

@@ -15,20 +15,9 @@ use Rattle.cedar_unfold.specs.Faults.{faults_by, attribute_faults_by}
 use Rattle.cedar_unfold.specs.Following.{first_of, labels, first_attribute, following}
 use Rattle.cedar_unfold.specs.Rows.{row_of, attribute_row_of, written_rows}
 use Rattle.cedar_unfold.specs.Tables.{is_among, place_of}
-use Rattle.cedar_unfold.specs.Written.{Written, WrittenAttributes, no_attributes, nodes, attribute_nodes, all_nodes, common_references, attribute_common_references}
-use Rattle.cedar_unfold.proofs.FollowingLemmas.{following-None, following-next, following-part, following-end, some_nodes}
-
-pub first-append : {A : Type 0} (xs ys : List A) → first_of (xs ++ ys) ≡ option_or (first_of xs) (first_of ys)
-first-append [] ys = refl
-first-append (x ∷ xs) ys = refl
-
-pub or-None : {A : Type 0} (o : Option A) → option_or o None ≡ o
-or-None None = refl
-or-None (Some x) = refl
-
-pub or-assoc : {A : Type 0} (a b c : Option A) → option_or (option_or a b) c ≡ option_or a (option_or b c)
-or-assoc None b c = refl
-or-assoc (Some x) b c = refl
+use Rattle.cedar_unfold.specs.Written.{Written, WrittenAttributes, nodes, attribute_nodes, all_nodes, common_references, attribute_common_references}
+use Rattle.cedar_unfold.proofs.FollowingLemmas.{following-None, following-next, following-end}
+use Rattle.cedar_unfold.proofs.Noting.{Noting, Noting-start, Noting-next, Noting-counts, Noting-part, Noting-less, Noting-fault, Noting-steps, first-append, or-None, or-assoc}
 
 module _ (names : List FullName) (is_extension : List ℕ → Bool) where
   abbrev pub faults_in : Written FullName → List Refusal
@@ -40,18 +29,13 @@ module _ (names : List FullName) (is_extension : List ℕ → Bool) where
   -- the attributes up to `after` were walked
   pub record Surveying (ws : WrittenAttributes FullName) (row₀ : List ℕ) (fault₀ : Option Refusal) (steps₀ : ℕ) (after : Option (List ℕ)) (row : List ℕ) (fault : Option Refusal) (steps : ℕ) : Type 0 where
     pub row_left : row ++ attribute_row_of names (following after ws) ≡ row₀ ++ attribute_row_of names ws
-    pub fault_left : option_or fault (first_of (attribute_faults_in (following after ws))) ≡ option_or fault₀ (first_of (attribute_faults_in ws))
-    pub steps_left : steps + attribute_nodes (following after ws) ≤ steps₀ + attribute_nodes ws
+    pub noting : Noting (is_among names) is_extension ws fault₀ steps₀ after fault steps
 
   pub Surveying-start : (ws : WrittenAttributes FullName) (row : List ℕ) (fault : Option Refusal) (steps : ℕ) → Surveying ws row fault steps None row fault steps
-  Surveying-start ws row fault steps =
-      let all = following-None ws in
-      let same = ap attribute_nodes all in
-      record {
-        row_left = ap (λ ws. row ++ attribute_row_of names ws) all;
-        fault_left = ap (λ ws. option_or fault (first_of (attribute_faults_in ws))) all;
-        steps_left = omega (arith, same);
-      }
+  Surveying-start ws row fault steps = record {
+    row_left = ap (λ ws. row ++ attribute_row_of names ws) (following-None ws);
+    noting = Noting-start (is_among names) is_extension ws fault steps;
+  }
 
   module _ {ws : WrittenAttributes FullName} {row₀ : List ℕ} {fault₀ : Option Refusal} {steps₀ : ℕ} {after : Option (List ℕ)} {row : List ℕ} {fault : Option Refusal} {steps : ℕ} (s : Surveying ws row₀ fault₀ steps₀ after row fault steps) where
     module _ (name : List ℕ) (t : Written FullName) (required : Bool) (sorted : IsStrictlySortedBy (slice_cmp nat_cmp) (labels ws)) (first : first_attribute (following after ws) ≡ Some (name, t, required)) where
@@ -60,53 +44,36 @@ module _ (names : List FullName) (is_extension : List ℕ → Bool) where
 
       -- the next was walked
       pub Surveying-next : (row' : List ℕ) (fault' : Option Refusal) (steps' : ℕ) → row' ≡ row ++ row_of names t → fault' ≡ option_or fault (first_of (faults_in t)) → steps' ≤ steps + nodes t → Surveying ws row₀ fault₀ steps₀ (Some name) row' fault' steps'
-      Surveying-next row' fault' steps' row_is fault_is more =
-          let split = following-next after ws name t required sorted first in
-          let left = ap attribute_nodes split in
-          record {
-            row_left =
-                ap (λ r. r ++ attribute_row_of names rest) row_is
-                ∙ append_assoc row (row_of names t) (attribute_row_of names rest)
-                ∙ ap (λ l. row ++ l) (sym (filter_map-append (place_of names) (common_references t) (attribute_common_references rest)))
-                ∙ ap (λ ws. row ++ attribute_row_of names ws) (sym split)
-                ∙ s.row_left;
-            fault_left =
-                ap (λ f. option_or f (first_of (attribute_faults_in rest))) fault_is
-                ∙ or-assoc fault (first_of (faults_in t)) (first_of (attribute_faults_in rest))
-                ∙ ap (option_or fault) (sym (first-append (faults_in t) (attribute_faults_in rest)))
-                ∙ ap (λ ws. option_or fault (first_of (attribute_faults_in ws))) (sym split)
-                ∙ s.fault_left;
-            steps_left = omega (arith, left, more, s.steps_left);
-          }
+      Surveying-next row' fault' steps' row_is fault_is more = record {
+        row_left =
+            ap (λ r. r ++ attribute_row_of names rest) row_is
+            ∙ append_assoc row (row_of names t) (attribute_row_of names rest)
+            ∙ ap (λ l. row ++ l) (sym (filter_map-append (place_of names) (common_references t) (attribute_common_references rest)))
+            ∙ ap (λ ws. row ++ attribute_row_of names ws) (sym (following-next after ws name t required sorted first))
+            ∙ s.row_left;
+        noting = Noting-next (is_among names) is_extension s.noting name t required sorted first fault' steps' fault_is more;
+      }
 
       -- no more steps than those of the record, also where the walk stops in it
       pub Surveying-counts : (steps' : ℕ) → steps' ≤ steps + nodes t → steps' ≤ steps₀ + attribute_nodes ws
-      Surveying-counts steps' more =
-          let left = ap attribute_nodes (following-next after ws name t required sorted first) in
-          omega (arith, left, more, s.steps_left)
+      Surveying-counts steps' more = Noting-counts (is_among names) is_extension s.noting name t required sorted first steps' more
 
       -- the part is smaller than the record, and less is left after it
       pub Surveying-part : nodes t ≤ attribute_nodes ws
-      Surveying-part = following-part after ws name t required sorted first
+      Surveying-part = Noting-part (is_among names) is_extension s.noting name t required sorted first
 
       pub Surveying-less : attribute_nodes rest < attribute_nodes (following after ws)
-      Surveying-less =
-          let left = ap attribute_nodes (following-next after ws name t required sorted first) in
-          let some = some_nodes t in
-          omega (arith, left, some)
+      Surveying-less = Noting-less (is_among names) is_extension s.noting name t required sorted first
 
     module _ (ended : first_attribute (following after ws) ≡ None) where
-      none_left : following after ws ≡ no_attributes
-      none_left = following-end after ws ended
-
       pub Surveying-row : row ≡ row₀ ++ attribute_row_of names ws
-      Surveying-row = sym (append-nil row) ∙ ap (λ ws. row ++ attribute_row_of names ws) (sym none_left) ∙ s.row_left
+      Surveying-row = sym (append-nil row) ∙ ap (λ ws. row ++ attribute_row_of names ws) (sym (following-end after ws ended)) ∙ s.row_left
 
       pub Surveying-fault : fault ≡ option_or fault₀ (first_of (attribute_faults_in ws))
-      Surveying-fault = sym (or-None fault) ∙ ap (λ ws. option_or fault (first_of (attribute_faults_in ws))) (sym none_left) ∙ s.fault_left
+      Surveying-fault = Noting-fault (is_among names) is_extension s.noting ended
 
     pub Surveying-steps : steps ≤ steps₀ + attribute_nodes ws
-    Surveying-steps = omega (arith, s.steps_left)
+    Surveying-steps = Noting-steps (is_among names) is_extension s.noting
 
   -- the faults of definitions, in order
   abbrev pub all_faults : List (FullName × Written FullName) → List Refusal

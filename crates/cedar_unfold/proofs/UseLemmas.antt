@@ -1,33 +1,28 @@
 -- SPDX-License-Identifier: Apache-2.0
 -- What a use is refused for, and that it passes.
 use Rattle.std.proofs.Common.{◌≡◌, ◌≤◌, inl, inr, List, [], Option, Some, None, Result, Ok, Err, sym, ap, ◌∙◌, subst}
-use Rattle.std.specs.List.Sorted.{IsStrictlySortedBy}
 use Rattle.cedar_data.specs.Answers.{IfRefused}
 use Rattle.cedar_data.specs.Firsts.{IsFirst}
 use Rattle.cedar_data.specs.declared.memory.Failure.{Failure}
 use Rattle.cedar_data.specs.declared.memory.Failure.TheVariants.{Refused, NoMemory}
 use Rattle.cedar_names.specs.Extensions.{extension_words}
-use Rattle.cedar_names.specs.Names.{internal_cmp}
-use Rattle.cedar_names.specs.Order.{words_cmp}
 use Rattle.cedar_names.specs.declared.extensions.Extensions.{Extensions}
-use Rattle.cedar_names.specs.declared.internal_name.InternalName.{InternalName}
 use Rattle.cedar_schema_error.specs.FullNames.{FullName}
 use Rattle.cedar_schema_error.specs.Refusals.{UsePlace, Refusal, TooDeep, Place, ContextOrShapeNotRecord}
 use Rattle.cedar_text.specs.Words.{has_word}
 use Rattle.cedar_unfold.specs.Faults.{faults, faults_by}
 use Rattle.cedar_unfold.specs.Finished.{finished}
 use Rattle.cedar_unfold.specs.Following.{first_of}
-use Rattle.cedar_unfold.specs.Full.{IsReady, meanings_of}
+use Rattle.cedar_unfold.specs.Full.{IsFull, meanings_of}
 use Rattle.cedar_unfold.specs.Meanings.{Meanings}
 use Rattle.cedar_unfold.specs.Passing.{PassesAs}
 use Rattle.cedar_unfold.specs.Resolved.{Resolved, nest, deepest}
-use Rattle.cedar_unfold.specs.Tables.{is_among, names_of}
+use Rattle.cedar_unfold.specs.Tables.{is_tabled}
 use Rattle.cedar_unfold.specs.UnfoldPhases.{Fits, UseRefuses}
 use Rattle.cedar_unfold.specs.Unfolds.{Unfolds}
 use Rattle.cedar_unfold.specs.Written.{Written}
 use Rattle.cedar_unfold.proofs.Keeping.{Finishes}
-use Rattle.cedar_unfold.proofs.NameTables.{names-sorted}
-use Rattle.cedar_unfold.proofs.Ready.{first-is, first-none, within-some, within-none, finishes_full, faults-same}
+use Rattle.cedar_unfold.proofs.Ready.{first-is, first-none, within-some, within-none, finishes_full, faults-full}
 
 -- what holds of a refusal holds of more
 pub refused-weaker : {T E : Type 0} (r : Result T (Failure E)) (P Q : E → Type 0) → ((e : E) → P e → Q e) → IfRefused r P → IfRefused r Q
@@ -35,19 +30,17 @@ refused-weaker (Ok value) P Q f p = p
 refused-weaker (Err (Refused e)) P Q f p = f e p
 refused-weaker (Err NoMemory) P Q f p = p
 
-module _ (keys : List InternalName) (extensions : Extensions) (table : FullName → Option (Option Resolved)) (sorted : IsStrictlySortedBy internal_cmp keys) (place : UsePlace) (t : Written FullName)
-    (definitions : List (FullName × Written FullName)) (ready : IsReady (names_of keys) extensions table definitions) where
+module _ (extensions : Extensions) (table : FullName → Option (Option Resolved)) (place : UsePlace) (t : Written FullName)
+    (definitions : List (FullName × Written FullName)) (full : IsFull (meanings_of definitions extensions) table) where
   abbrev m : Meanings FullName
   m = meanings_of definitions extensions
 
-  -- the first fault by the names of the common types
+  -- the first fault by the names that the table has
   abbrev first_fault : Option Refusal
-  first_fault = first_of (faults_by Some (is_among (names_of keys)) (has_word (extension_words extensions)) t)
+  first_fault = first_of (faults_by Some (is_tabled table) (has_word (extension_words extensions)) t)
 
-  same_faults : faults_by Some (is_among (names_of keys)) (has_word (extension_words extensions)) t ≡ faults m t
-  same_faults =
-      ap (λ names. faults_by Some (is_among names) (has_word (extension_words extensions)) t) ready.named
-      ∙ faults-same definitions (has_word (extension_words extensions)) (subst (IsStrictlySortedBy words_cmp) ready.named (names-sorted keys sorted)) t
+  same_faults : faults_by Some (is_tabled table) (has_word (extension_words extensions)) t ≡ faults m t
+  same_faults = faults-full definitions (has_word (extension_words extensions)) full t
 
   pub refused-fault : (r e : Refusal) → Some r ≡ first_fault → e ≡ r → UseRefuses m (place, t) e
   refused-fault r e first is = inl (subst (IsFirst (faults m t)) (sym is) (first-is (faults m t) r (first ∙ ap first_of same_faults)))
@@ -57,7 +50,7 @@ module _ (keys : List InternalName) (extensions : Extensions) (table : FullName 
     faultless = first-none (faults m t) (none ∙ ap first_of same_faults)
 
     finishes : Finishes m t (finished table t)
-    finishes = finishes_full definitions (has_word (extension_words extensions)) ready.full t faultless
+    finishes = finishes_full definitions (has_word (extension_words extensions)) full t faultless
 
     pub refused-deep : (e : Refusal) → None ≡ finished table t → e ≡ TooDeep (Place place) → UseRefuses m (place, t) e
     refused-deep e found is = inr (inl (faultless, (finishes.ty, finishes.unfolds, within-none finishes.ty (sym finishes.is ∙ sym found)), is))

@@ -1,7 +1,6 @@
 -- SPDX-License-Identifier: Apache-2.0
 -- A table that has what each common type unfolds to.
 use Rattle.std.specs.Prelude.{◌≡◌, ℕ, List, [], Option, Some, None, slice_index_or, map}
-use Rattle.std.specs.Map.{keys_of}
 use Rattle.cedar_data.specs.Firsts.{AllPass}
 use Rattle.cedar_names.specs.Extensions.{extension_words}
 use Rattle.cedar_names.specs.declared.extensions.Extensions.{Extensions}
@@ -55,11 +54,6 @@ module _ (m : Meanings FullName) where
     pub record IsFull : Type 0 where
       pub done : (name : FullName) (t : Written FullName) → definition_of m name ≡ Some t → IsDone name
       pub missing : (name : FullName) → definition_of m name ≡ None → table name ≡ None
-
--- the names are those of the definitions, and the table has what each unfolds to
-pub record IsReady (names : List FullName) (extensions : Extensions) (table : FullName → Option (Option Resolved)) (definitions : Definitions) : Type 0 where
-  pub named : names ≡ keys_of definitions
-  pub full : IsFull (meanings_of definitions extensions) table
 
 -- how many types are written in the definition at a position
 abbrev pub nodes_at : Definitions → ℕ → ℕ

@@ -35,3 +35,7 @@ found_type found = option_map (λ n. resolved n.ty) found
 -- what the table has of the common type of this name
 abbrev pub tabled : List (InternalName × Option Nested) → FullName → Option (Option Resolved)
 tabled table name = get words_cmp (by_name found_type table) name
+
+-- whether a table has something of the common type of this name
+abbrev pub is_tabled : (FullName → Option (Option Resolved)) → FullName → Bool
+is_tabled table name = is_some (table name)

@@ -76,9 +76,16 @@ pub fn unfold_all<T: TypeNode, L: Ledger>(
 {
     let keys = copied_keys(alloc, defs)?;
     let order = ordered(alloc, defs, keys.as_slice(), extensions, steps)?;
-    let table = fill(alloc, defs, keys.as_slice(), order.as_slice(), steps)?;
+    let table = fill(
+        alloc,
+        defs,
+        keys.as_slice(),
+        order.as_slice(),
+        extensions,
+        steps,
+    )?;
     let common = common_types(alloc, defs, &table)?;
-    let used = unfolded_uses(alloc, uses, keys.as_slice(), extensions, &table, steps)?;
+    let used = unfolded_uses(alloc, uses, extensions, &table, steps)?;
     Ok(Unfolded { common, uses: used })
 }
 
@@ -150,7 +157,7 @@ fn common_types<T>(
         (λ e. FirstRefused (HasSome (tabled table.now)) (LacksType (tabled table.now))
         (names_of (keys_of defs.now)) (told e)) }
 {
-    let mut made = Map::new(alloc);
+    let mut made = Map::with_room(alloc, defs.len())?;
     for (key, _) in defs.iter() {
         match found_type(table, key) {
             Some(ty) => put_copy(alloc, &mut made, key, ty.dup(alloc)?)?,

@@ -15,7 +15,7 @@ use crate::node::TypeNode;
 use crate::steps::Steps;
 use crate::unfold_type::unfolded;
 use cedar_data::{Dup, Map, Mem};
-use cedar_names::InternalName;
+use cedar_names::{Extensions, InternalName};
 use std::alloc::Global;
 use std::sync::ledger::Ledger;
 
@@ -26,6 +26,7 @@ pub(crate) fn fill<T: TypeNode, L: Ledger>(
     defs: &Map<InternalName, T>,
     keys: &[InternalName],
     order: &[usize],
+    extensions: &Extensions,
     steps: &mut Steps<L>,
 ) -> Mem<Map<InternalName, Option<Nested>>>
     requires keys { keys.now ≡ keys_of defs.now }
@@ -37,14 +38,15 @@ pub(crate) fn fill<T: TypeNode, L: Ledger>(
     ensures counts { steps.new ≤ steps.old + sum_by
         (nodes_at (by_name T.written defs.now)) order.now }
 {
-    let mut table = Map::new(alloc);
+    let mut table = Map::with_room(alloc, order.len())?;
     for at in order {
         let key = &keys[*at];
         let Some(ty) = defs.get(key) else {
             unreachable!()
         };
         let copy = key.dup(alloc)?;
-        let found = unfolded(alloc, ty, &table, steps)?;
+        let mut no_fault = None;
+        let found = unfolded(alloc, ty, extensions, &table, &mut no_fault, steps)?;
         table.put(copy, found)?;
     }
     Ok(table)

@@ -55,7 +55,7 @@ pub(crate) fn survey_definitions<T: TypeNode, L: Ledger>(
 /// Puts the positions of the common types that the type names behind the row, and keeps its first fault, unless an
 /// earlier one is kept.
 #[cycle(survey)]
-pub(crate) fn survey<T: TypeNode, L: Ledger>(
+fn survey<T: TypeNode, L: Ledger>(
     alloc: Global,
     ty: &T,
     keys: &[InternalName],

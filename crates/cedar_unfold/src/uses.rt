@@ -1,32 +1,23 @@
 // SPDX-License-Identifier: Apache-2.0
-ghost use Rattle.std.specs.Prelude.{◌≡◌, ◌+◌, ◌*◌, ◌≤◌, None, Some, IfOk, MatchOption};
+ghost use Rattle.std.specs.Prelude.{◌≡◌, ◌+◌, ◌≤◌, IfOk, MatchOption};
 ghost use Rattle.std.specs.List.{AllZip};
-ghost use Rattle.std.specs.List.Sorted.{IsStrictlySortedBy};
 ghost use Rattle.cedar_data.specs.Answers.{IfRefused};
 ghost use Rattle.cedar_data.specs.Firsts.{FirstRefused};
-ghost use Rattle.cedar_names.specs.Names.{internal_cmp};
-ghost use Rattle.cedar_names.specs.Extensions.{extension_words};
 ghost use Rattle.cedar_schema_error.specs.Refusals.{ContextOrShapeNotRecord, Place, TooDeep};
 ghost use Rattle.cedar_schema_error.specs.Told.{told, told_use};
-ghost use Rattle.cedar_text.specs.Words.{has_word};
-ghost use Rattle.cedar_unfold.specs.Faults.{faults_by};
-ghost use Rattle.cedar_unfold.specs.Following.{first_of};
-ghost use Rattle.cedar_unfold.specs.Full.{Definitions, IsReady, by_place, meanings_of};
-ghost use Rattle.cedar_unfold.specs.Notes.{noted};
+ghost use Rattle.cedar_unfold.specs.Full.{Definitions, IsFull, by_place, meanings_of};
 ghost use Rattle.cedar_unfold.specs.Passing.{GivesUse, PassesAs};
 ghost use Rattle.cedar_unfold.specs.ResolvedViews.{resolved};
-ghost use Rattle.cedar_unfold.specs.Tables.{is_among, names_of, tabled};
+ghost use Rattle.cedar_unfold.specs.Tables.{tabled};
 ghost use Rattle.cedar_unfold.specs.UnfoldPhases.{Fits, UsePasses, UseRefuses};
 ghost use Rattle.cedar_unfold.specs.Written.{nodes, all_nodes};
 
 use crate::copies::put_copy;
-use crate::faults::Fault;
 use crate::nested::Nested;
 use crate::node::TypeNode;
 use crate::steps::Steps;
-use crate::survey::survey;
 use crate::unfold_type::unfolded;
-use cedar_data::{Dup, Failure, Items, Map, Mem, Out};
+use cedar_data::{Dup, Failure, Map, Mem, Out};
 use cedar_names::{Extensions, InternalName};
 use cedar_schema_error::{
     ContextOrShape, ContextOrShapeNotRecordError, DeepPlace, SchemaError, TooDeepError, UsePlace,
@@ -39,26 +30,24 @@ use std::sync::ledger::Ledger;
 pub(crate) fn unfolded_uses<T: TypeNode, L: Ledger>(
     alloc: Global,
     uses: &Map<UsePlace, T>,
-    keys: &[InternalName],
     extensions: &Extensions,
     table: &Map<InternalName, Option<Nested>>,
     steps: &mut Steps<L>,
 ) -> Out<Map<UsePlace, Type>, SchemaError>
-    requires { IsStrictlySortedBy internal_cmp keys.now }
     ensures types { IfOk result (λ made. (definitions : Definitions)
-        → IsReady (names_of keys.now) extensions.now (tabled table.now) definitions
+        → IsFull (meanings_of definitions extensions.now) (tabled table.now)
         → AllZip (GivesUse (meanings_of definitions extensions.now)) (by_place T.written uses.now)
         (by_place resolved made)) }
     ensures refused { IfRefused result (λ e. (definitions : Definitions)
-        → IsReady (names_of keys.now) extensions.now (tabled table.now) definitions
+        → IsFull (meanings_of definitions extensions.now) (tabled table.now)
         → FirstRefused (UsePasses (meanings_of definitions extensions.now))
         (UseRefuses (meanings_of definitions extensions.now)) (by_place T.written uses.now)
         (told e)) }
-    ensures counts { steps.new ≤ steps.old + 2 * all_nodes (by_place T.written uses.now) }
+    ensures counts { steps.new ≤ steps.old + all_nodes (by_place T.written uses.now) }
 {
-    let mut made = Map::new(alloc);
+    let mut made = Map::with_room(alloc, uses.len())?;
     for (place, ty) in uses.iter() {
-        let found = unfolded_use(alloc, place, ty, keys, extensions, table, steps)?;
+        let found = unfolded_use(alloc, place, ty, extensions, table, steps)?;
         put_copy(alloc, &mut made, place, found)?;
     }
     Ok(made)
@@ -69,26 +58,26 @@ fn unfolded_use<T: TypeNode, L: Ledger>(
     alloc: Global,
     place: &UsePlace,
     ty: &T,
-    keys: &[InternalName],
     extensions: &Extensions,
     table: &Map<InternalName, Option<Nested>>,
     steps: &mut Steps<L>,
 ) -> Out<Type, SchemaError>
-    requires { IsStrictlySortedBy internal_cmp keys.now }
     ensures passes { IfOk result (λ made. (definitions : Definitions)
-        → IsReady (names_of keys.now) extensions.now (tabled table.now) definitions
+        → IsFull (meanings_of definitions extensions.now) (tabled table.now)
         → PassesAs (meanings_of definitions extensions.now) (told_use place.now, T.written ty.now)
         (resolved made)) }
     ensures refused { IfRefused result (λ e. (definitions : Definitions)
-        → IsReady (names_of keys.now) extensions.now (tabled table.now) definitions
+        → IsFull (meanings_of definitions extensions.now) (tabled table.now)
         → UseRefuses (meanings_of definitions extensions.now) (told_use place.now, T.written ty.now)
         (told e)) }
-    ensures counts { steps.new ≤ steps.old + 2 * nodes (T.written ty.now) }
+    ensures counts { steps.new ≤ steps.old + nodes (T.written ty.now) }
 {
-    if let Some(fault) = first_fault(alloc, ty, keys, extensions, steps)? {
+    let mut fault = None;
+    let found = unfolded(alloc, ty, extensions, table, &mut fault, steps)?;
+    if let Some(fault) = fault {
         return Err(Failure::Refused(fault.into_error(alloc)));
     }
-    match unfolded(alloc, ty, table, steps)? {
+    match found {
         Some(found) => fitting(alloc, place, found),
         None => Err(Failure::Refused(too_deep(alloc, place)?)),
     }
@@ -113,27 +102,6 @@ fn too_deep(alloc: Global, place: &UsePlace) -> Mem<SchemaError>
 {
     let place = DeepPlace::Place(place.dup(alloc)?);
     Ok(SchemaError::TooDeep(TooDeepError { place }))
-}
-
-/// The first fault of a type, if it has one.
-fn first_fault<T: TypeNode, L: Ledger>(
-    alloc: Global,
-    ty: &T,
-    keys: &[InternalName],
-    extensions: &Extensions,
-    steps: &mut Steps<L>,
-) -> Mem<Option<Fault>>
-    requires { IsStrictlySortedBy internal_cmp keys.now }
-    ensures first { IfOk result (λ fault. noted fault
-        ≡ first_of
-        (faults_by Some (is_among (names_of keys.now)) (has_word (extension_words extensions.now))
-        (T.written ty.now))) }
-    ensures counts { steps.new ≤ steps.old + nodes (T.written ty.now) }
-{
-    let mut fault = None;
-    let mut row = Items::new(alloc);
-    survey(alloc, ty, keys, extensions, &mut row, &mut fault, steps)?;
-    Ok(fault)
 }
 
 /// That the type is no record where one must stand, if it is so.

@@ -6,13 +6,13 @@ use Rattle.cedar_data.specs.Firsts.{FirstRefused}
 use Rattle.cedar_names.specs.Names.{internal_cmp}
 use Rattle.cedar_schema_error.specs.Told.{told}
 use Rattle.cedar_sorting.specs.Orders.{IsOrder}
-use Rattle.cedar_unfold.specs.Full.{Definitions, IsReady, by_place, job_of, meanings_of}
+use Rattle.cedar_unfold.specs.Full.{Definitions, IsFull, by_place, job_of, meanings_of}
 use Rattle.cedar_unfold.specs.Passing.{DefinitionsRefuse, HasSome, LacksType}
 use Rattle.cedar_unfold.specs.ResolvedViews.{resolved}
 use Rattle.cedar_unfold.specs.Rows.{definition_rows}
 use Rattle.cedar_unfold.specs.Tables.{by_name, names_of, tabled}
 use Rattle.cedar_unfold.specs.UnfoldPhases.{UsePasses, UseRefuses, WhyNotUnfoldable}
-use Rattle.cedar_unfold.proofs.Finally.{ordered-refused, ready, commons-refused, uses-refused, passes_all, unfolds_all}
+use Rattle.cedar_unfold.proofs.Finally.{ordered-refused, full, commons-refused, uses-refused, passes_all, unfolds_all}
 use Rattle.cedar_unfold.proofs.Sums.{order-nodes}
 use Rattle.cedar_unfold.proofs.UseLemmas.{refused-weaker}
 use Rattle.cedar_unfold.proofs.all.unfold_all.Goals as goal
@@ -31,9 +31,6 @@ fill-requires-clause-sorted g c = subst (IsStrictlySortedBy internal_cmp) (sym (
 
 pub fill-requires-clause-order : goal.fill-requires-clause-order
 fill-requires-clause-order g c = subst (IsOrder (definition_rows (by_name g.T.TypeNode.written c.args.defs.now))) (sym c.as_slice-3.ensures.value) c.in_ok-order.ensures.order
-
-pub unfolded_uses-requires : goal.unfolded_uses-requires
-unfolded_uses-requires g c = subst (IsStrictlySortedBy internal_cmp) (sym (c.as_slice-4.ensures.value ∙ c.in_ok-keys.ensures.keys)) c.copied_keys.ensures.sorted
 
 pub returns-in_err-order-clause-refused : goal.returns-in_err-order-clause-refused
 returns-in_err-order-clause-refused g c =
@@ -68,12 +65,12 @@ returns-clause-counts g c =
 pub returns-in_err-used-clause-refused : goal.returns-in_err-used-clause-refused
 returns-in_err-used-clause-refused g c =
     refused-weaker c.from_residual-in_err-used.result (λ e. FirstRefused (UsePasses (meanings_of (by_name g.T.TypeNode.written c.args.defs.now) c.args.extensions.now)) (UseRefuses (meanings_of (by_name g.T.TypeNode.written c.args.defs.now) c.args.extensions.now)) (by_place g.T.TypeNode.written c.args.uses.now) (told e)) (λ e. WhyNotUnfoldable (job_of (by_name g.T.TypeNode.written c.args.defs.now) (by_place g.T.TypeNode.written c.args.uses.now) c.args.extensions.now) (told e))
-    (λ e r. uses-refused g.T.TypeNode.written c.args.defs.now c.as_slice-4.result.now (c.as_slice-4.ensures.value ∙ c.in_ok-keys.ensures.keys) (subst (IsStrictlySortedBy internal_cmp) (sym (c.as_slice-4.ensures.value ∙ c.in_ok-keys.ensures.keys)) c.copied_keys.ensures.sorted) (by_place g.T.TypeNode.written c.args.uses.now) c.args.extensions.now c.in_ok-order.ensures.passes c.in_ok-table.ensures.full (by_name resolved c.in_ok-common.common) c.in_ok-common.ensures.types (told e) r)
-    (refused-weaker c.from_residual-in_err-used.result (λ e. (definitions : Definitions) → IsReady (names_of c.as_slice-4.result.now) c.args.extensions.now (tabled c.in_ok-table.table) definitions → FirstRefused (UsePasses (meanings_of definitions c.args.extensions.now)) (UseRefuses (meanings_of definitions c.args.extensions.now)) (by_place g.T.TypeNode.written c.args.uses.now) (told e)) (λ e. FirstRefused (UsePasses (meanings_of (by_name g.T.TypeNode.written c.args.defs.now) c.args.extensions.now)) (UseRefuses (meanings_of (by_name g.T.TypeNode.written c.args.defs.now) c.args.extensions.now)) (by_place g.T.TypeNode.written c.args.uses.now) (told e)) (λ e r. r (by_name g.T.TypeNode.written c.args.defs.now) (ready g.T.TypeNode.written c.args.defs.now c.as_slice-4.result.now (c.as_slice-4.ensures.value ∙ c.in_ok-keys.ensures.keys) (subst (IsStrictlySortedBy internal_cmp) (sym (c.as_slice-4.ensures.value ∙ c.in_ok-keys.ensures.keys)) c.copied_keys.ensures.sorted) (by_place g.T.TypeNode.written c.args.uses.now) c.args.extensions.now c.in_ok-order.ensures.passes c.in_ok-table.ensures.full)) (search rules))
+    (λ e r. uses-refused g.T.TypeNode.written c.args.defs.now c.as_slice-2.result.now (c.as_slice-2.ensures.value ∙ c.in_ok-keys.ensures.keys) (subst (IsStrictlySortedBy internal_cmp) (sym (c.as_slice-2.ensures.value ∙ c.in_ok-keys.ensures.keys)) c.copied_keys.ensures.sorted) (by_place g.T.TypeNode.written c.args.uses.now) c.args.extensions.now c.in_ok-order.ensures.passes c.in_ok-table.ensures.full (by_name resolved c.in_ok-common.common) c.in_ok-common.ensures.types (told e) r)
+    (refused-weaker c.from_residual-in_err-used.result (λ e. (definitions : Definitions) → IsFull (meanings_of definitions c.args.extensions.now) (tabled c.in_ok-table.table) → FirstRefused (UsePasses (meanings_of definitions c.args.extensions.now)) (UseRefuses (meanings_of definitions c.args.extensions.now)) (by_place g.T.TypeNode.written c.args.uses.now) (told e)) (λ e. FirstRefused (UsePasses (meanings_of (by_name g.T.TypeNode.written c.args.defs.now) c.args.extensions.now)) (UseRefuses (meanings_of (by_name g.T.TypeNode.written c.args.defs.now) c.args.extensions.now)) (by_place g.T.TypeNode.written c.args.uses.now) (told e)) (λ e r. r (by_name g.T.TypeNode.written c.args.defs.now) (full g.T.TypeNode.written c.args.defs.now c.as_slice-2.result.now (c.as_slice-2.ensures.value ∙ c.in_ok-keys.ensures.keys) (subst (IsStrictlySortedBy internal_cmp) (sym (c.as_slice-2.ensures.value ∙ c.in_ok-keys.ensures.keys)) c.copied_keys.ensures.sorted) (by_place g.T.TypeNode.written c.args.uses.now) c.args.extensions.now c.in_ok-order.ensures.passes c.in_ok-table.ensures.full)) (search rules))
 
 pub returns-clause-done : goal.returns-clause-done
 returns-clause-done g c =
-    let give = c.in_ok-used.ensures.types (by_name g.T.TypeNode.written c.args.defs.now) (ready g.T.TypeNode.written c.args.defs.now c.as_slice-4.result.now (c.as_slice-4.ensures.value ∙ c.in_ok-keys.ensures.keys) (subst (IsStrictlySortedBy internal_cmp) (sym (c.as_slice-4.ensures.value ∙ c.in_ok-keys.ensures.keys)) c.copied_keys.ensures.sorted) (by_place g.T.TypeNode.written c.args.uses.now) c.args.extensions.now c.in_ok-order.ensures.passes c.in_ok-table.ensures.full) in (
-      passes_all g.T.TypeNode.written c.args.defs.now c.as_slice-4.result.now (c.as_slice-4.ensures.value ∙ c.in_ok-keys.ensures.keys) (subst (IsStrictlySortedBy internal_cmp) (sym (c.as_slice-4.ensures.value ∙ c.in_ok-keys.ensures.keys)) c.copied_keys.ensures.sorted) (by_place g.T.TypeNode.written c.args.uses.now) c.args.extensions.now c.in_ok-order.ensures.passes c.in_ok-table.ensures.full (by_name resolved c.in_ok-common.common) c.in_ok-common.ensures.types (by_place resolved c.in_ok-used.used) give,
-      unfolds_all g.T.TypeNode.written c.args.defs.now c.as_slice-4.result.now (c.as_slice-4.ensures.value ∙ c.in_ok-keys.ensures.keys) (subst (IsStrictlySortedBy internal_cmp) (sym (c.as_slice-4.ensures.value ∙ c.in_ok-keys.ensures.keys)) c.copied_keys.ensures.sorted) (by_place g.T.TypeNode.written c.args.uses.now) c.args.extensions.now c.in_ok-order.ensures.passes c.in_ok-table.ensures.full (by_name resolved c.in_ok-common.common) c.in_ok-common.ensures.types (by_place resolved c.in_ok-used.used) give,
+    let give = c.in_ok-used.ensures.types (by_name g.T.TypeNode.written c.args.defs.now) (full g.T.TypeNode.written c.args.defs.now c.as_slice-2.result.now (c.as_slice-2.ensures.value ∙ c.in_ok-keys.ensures.keys) (subst (IsStrictlySortedBy internal_cmp) (sym (c.as_slice-2.ensures.value ∙ c.in_ok-keys.ensures.keys)) c.copied_keys.ensures.sorted) (by_place g.T.TypeNode.written c.args.uses.now) c.args.extensions.now c.in_ok-order.ensures.passes c.in_ok-table.ensures.full) in (
+      passes_all g.T.TypeNode.written c.args.defs.now c.as_slice-2.result.now (c.as_slice-2.ensures.value ∙ c.in_ok-keys.ensures.keys) (subst (IsStrictlySortedBy internal_cmp) (sym (c.as_slice-2.ensures.value ∙ c.in_ok-keys.ensures.keys)) c.copied_keys.ensures.sorted) (by_place g.T.TypeNode.written c.args.uses.now) c.args.extensions.now c.in_ok-order.ensures.passes c.in_ok-table.ensures.full (by_name resolved c.in_ok-common.common) c.in_ok-common.ensures.types (by_place resolved c.in_ok-used.used) give,
+      unfolds_all g.T.TypeNode.written c.args.defs.now c.as_slice-2.result.now (c.as_slice-2.ensures.value ∙ c.in_ok-keys.ensures.keys) (subst (IsStrictlySortedBy internal_cmp) (sym (c.as_slice-2.ensures.value ∙ c.in_ok-keys.ensures.keys)) c.copied_keys.ensures.sorted) (by_place g.T.TypeNode.written c.args.uses.now) c.args.extensions.now c.in_ok-order.ensures.passes c.in_ok-table.ensures.full (by_name resolved c.in_ok-common.common) c.in_ok-common.ensures.types (by_place resolved c.in_ok-used.used) give,
     )

@@ -13,7 +13,7 @@ use Rattle.cedar_unfold.proofs.fill.fill.Goals as goal
 
 pub loop-at-init : goal.loop-at-init
 loop-at-init g c =
-    (λ is_extension faultless. Filling-start (by_name g.T.TypeNode.written c.args.defs.now) is_extension c.args.order.now (tabled c.new-table.result) (λ name. ap (λ es. tabled es name) c.new-table.ensures), omega arith)
+    (λ is_extension faultless. Filling-start (by_name g.T.TypeNode.written c.args.defs.now) is_extension c.args.order.now (tabled c.in_ok-table.table) (λ name. ap (λ es. tabled es name) c.in_ok-table.ensures), omega arith)
 
 pub unreachable-requires : goal.unreachable-requires
 unreachable-requires g c =

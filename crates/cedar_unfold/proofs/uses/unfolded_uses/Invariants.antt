@@ -1,11 +1,11 @@
 -- SPDX-License-Identifier: Apache-2.0
-use Rattle.std.proofs.Common.{◌≡◌, ◌+◌, ◌*◌, ◌≤◌, ◌++◌}
+use Rattle.std.proofs.Common.{◌≡◌, ◌+◌, ◌≤◌, ◌++◌}
 use Rattle.std.specs.Map.{keys_of}
 use Rattle.cedar_schema_error.specs.Refusals.{Refusal}
-use Rattle.cedar_unfold.specs.Full.{Definitions, IsReady, by_place, meanings_of}
+use Rattle.cedar_unfold.specs.Full.{Definitions, IsFull, by_place, meanings_of}
 use Rattle.cedar_unfold.specs.Passing.{GivesUse}
 use Rattle.cedar_unfold.specs.ResolvedViews.{resolved}
-use Rattle.cedar_unfold.specs.Tables.{names_of, tabled}
+use Rattle.cedar_unfold.specs.Tables.{tabled}
 use Rattle.cedar_unfold.specs.UnfoldPhases.{UsePasses, UseRefuses}
 use Rattle.cedar_unfold.specs.Written.{all_nodes}
 use Rattle.cedar_unfold.proofs.Gathering.{Gathering}
@@ -15,7 +15,7 @@ use Rattle.cedar_unfold.proofs.uses.unfolded_uses.Given as goal
 abbrev pub invariant-loop-place : goal.invariant-loop-place
 invariant-loop-place g l =
     (keys_of l.made ++ keys_of l.place-iterator ≡ keys_of l.uses)
-    × ((definitions : Definitions) → IsReady (names_of l.keys) l.extensions (tabled l.table) definitions
+    × ((definitions : Definitions) → IsFull (meanings_of definitions l.extensions) (tabled l.table)
     → Gathering {E = Refusal} (GivesUse (meanings_of definitions l.extensions)) (UsePasses (meanings_of definitions l.extensions)) (UseRefuses (meanings_of definitions l.extensions))
     (by_place g.T.TypeNode.written l.uses) (by_place g.T.TypeNode.written l.place-iterator) (by_place resolved l.made))
-    × (l.steps + 2 * all_nodes (by_place g.T.TypeNode.written l.place-iterator) ≤ l.fn.steps + 2 * all_nodes (by_place g.T.TypeNode.written l.uses))
+    × (l.steps + all_nodes (by_place g.T.TypeNode.written l.place-iterator) ≤ l.fn.steps + all_nodes (by_place g.T.TypeNode.written l.uses))
