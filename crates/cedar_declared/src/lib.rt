@@ -11,6 +11,7 @@ mod listed;
 mod name_set;
 mod resolve;
 mod resolving;
+mod spaces;
 mod type_names;
 
 pub use all_defs::AllDefs;

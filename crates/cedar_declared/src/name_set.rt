@@ -1,33 +1,35 @@
 // SPDX-License-Identifier: Apache-2.0
-//! A set of full names, which mostly tells by the basename alone that a name is none of them.
-ghost use Rattle.std.specs.Prelude.{◌≡◌, [], IfOk, OnOk, OnErr};
+//! A set of full names, in which a name is found by its namespace, and then by its basename.
+ghost use Rattle.std.specs.Prelude.{◌≡◌, [], OnOk, OnErr};
 ghost use Rattle.std.specs.BTreeSet.{insert_key};
 ghost use Rattle.cedar_data.specs.Sets.{contains};
 ghost use Rattle.cedar_names.specs.Names.{internal_cmp};
 
+use crate::spaces::Spaces;
 use cedar_data::{Dup, Mem, Set, SetIter};
-use cedar_names::{Id, InternalName};
+use cedar_names::InternalName;
 use std::alloc::Global;
 use std::marker::Model;
 
-/// Full names. Contracts see them as the list of them, in order. Their basenames are kept beside them: a basename is
-/// compared at less cost than a name, and that of a builtin type is mostly none of them.
+/// Full names. Contracts see them as the list of them, in order. Their basenames are kept beside them by their
+/// namespaces, in which a name is found at less cost. Where memory was wanting for these, they are let go, and names are
+/// looked up whole.
 #[derive(Debug, Drop)]
 pub(crate) struct NameSet {
     names: Set<InternalName>,
-    basenames: Set<Id>,
+    spaces: Option<Spaces>,
 }
 
 impl Model for NameSet {
     ghost use Rattle.std.specs.Prelude.{List};
     ghost use Rattle.cedar_names.specs.declared.internal_name.InternalName.{InternalName};
-    ghost use Rattle.cedar_declared.specs.Basenames.{HasBasenames};
+    ghost use Rattle.cedar_declared.specs.Basenames.{HaveNames};
 
     ghost Value = { List InternalName };
 
     ghost view = { λ s. s.names };
 
-    ghost invariant = { λ s. HasBasenames s.basenames s.names };
+    ghost invariant = { λ s. HaveNames s.spaces s.names };
 }
 
 impl NameSet {
@@ -37,7 +39,7 @@ impl NameSet {
     {
         NameSet {
             names: Set::new(alloc),
-            basenames: Set::new(alloc),
+            spaces: Some(Spaces::none(alloc)),
         }
     }
 
@@ -45,7 +47,10 @@ impl NameSet {
     pub(crate) fn contains(&self, name: &InternalName) -> bool
         ensures { result ≡ contains internal_cmp self.now name.now }
     {
-        self.basenames.contains(name.basename()) && self.names.contains(name)
+        match &self.spaces {
+            Some(spaces) => spaces.contains(name),
+            None => self.names.contains(name),
+        }
     }
 
     /// The names, in order.
@@ -61,9 +66,15 @@ impl NameSet {
         ensures ok { OnOk result (self.new ≡ insert_key internal_cmp self.old name) }
         ensures err { OnErr result (self.new ≡ self.old) }
     {
-        let basename = name.basename().dup(alloc)?;
-        self.basenames.insert(basename)?;
+        let spaces = match self.spaces.take() {
+            None => None,
+            Some(mut spaces) => {
+                spaces.insert(alloc, &name)?;
+                Some(spaces)
+            }
+        };
         self.names.insert(name)?;
+        self.spaces = spaces;
         Ok(())
     }
 }
@@ -71,7 +82,7 @@ impl NameSet {
 impl Dup for NameSet {
     fn dup(&self, alloc: Global) -> Mem<NameSet> {
         let names = self.names.dup(alloc)?;
-        let basenames = self.basenames.dup(alloc)?;
-        Ok(NameSet { names, basenames })
+        let spaces = self.spaces.dup(alloc)?;
+        Ok(NameSet { names, spaces })
     }
 }

@@ -50,7 +50,7 @@ impl ResolveName for ConditionalName {
     }
 }
 
-/// The first of the names that is declared as what the kind allows, which one is.
+/// The first of the names that is declared as what the kind allows, which one is. So the last isn't looked up.
 fn first_declared(
     all_defs: &AllDefs,
     kind: ReferenceType,
@@ -61,12 +61,17 @@ fn first_declared(
     ensures { find (λ p. is_declared (names_of all_defs.now) kind (components p)) names
         ≡ Some result }
 {
-    for name in names.into_vec() {
+    let mut names = names.into_vec();
+    let Some(last) = names.pop() else {
+        unreachable!()
+    };
+    for name in names {
         if all_defs.is_declared(kind, &name) {
             return name;
         }
     }
-    unreachable!()
+    // one of them is declared, and no other is
+    last
 }
 
 impl AllDefs {
