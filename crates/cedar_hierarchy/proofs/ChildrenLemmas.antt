@@ -1,6 +1,6 @@
 -- SPDX-License-Identifier: Apache-2.0
 -- Children put under their parents.
-use Rattle.std.proofs.Common.{◌≡◌, ◌&&◌, ◌||◌, Bool, true, false, cond, List, ◌∷◌, Some, None, refl, sym, ap, ◌∙◌}
+use Rattle.std.proofs.Common.{◌≡◌, ◌&&◌, ◌||◌, Bool, true, false, cond, List, [], ◌∷◌, Some, refl, sym, ap, ◌∙◌}
 use Rattle.std.proofs.lemmas.Cmp.{eq_by_cmp_equiv}
 use Rattle.std.specs.BTreeMap.{is_at}
 use Rattle.std.specs.Cmp.{IsTotalOrder}
@@ -19,7 +19,7 @@ module _ {K : Type 0} {cmp : K → K → Ordering} (total : IsTotalOrder cmp) wh
   -- the set of a parent taken out, the child put in, and the set put back
   pub added : (old mid new : List (K × List K)) (parent child : K) (before after : List K)
       → before ≡ children_at cmp old parent
-      → ((other : K) → get cmp mid other ≡ cond (is_at (cmp parent) other) None (get cmp old other))
+      → ((other : K) → get cmp mid other ≡ cond (is_at (cmp parent) other) (Some []) (get cmp old other))
       → Adds cmp before after child
       → ((other : K) → get cmp new other ≡ cond (is_at (cmp parent) other) (Some after) (get cmp mid other))
       → (p c : K) → is_child cmp new p c ≡ ((is_at (cmp p) parent && is_at (cmp child) c) || is_child cmp old p c)
@@ -33,7 +33,7 @@ module _ {K : Type 0} {cmp : K → K → Ordering} (total : IsTotalOrder cmp) wh
           ∙ ap (λ s. is_at (cmp child) c || contains cmp s c) (taken ∙ ap members same)
           ∙ ap (λ t. (t && is_at (cmp child) c) || is_child cmp old p c) (sym ((eq_by_cmp_equiv total).symm p parent ∙ e))
       by false e =
-          ap (λ o. contains cmp (members o) c) (put p ∙ ap (λ t. cond t (Some after) (get cmp mid p)) e ∙ out p ∙ ap (λ t. cond t None (get cmp old p)) e)
+          ap (λ o. contains cmp (members o) c) (put p ∙ ap (λ t. cond t (Some after) (get cmp mid p)) e ∙ out p ∙ ap (λ t. cond t (Some []) (get cmp old p)) e)
           ∙ ap (λ t. (t && is_at (cmp child) c) || is_child cmp old p c) (sym ((eq_by_cmp_equiv total).symm p parent ∙ e))
 
 -- one item more under its parents

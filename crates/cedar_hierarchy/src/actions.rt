@@ -86,7 +86,7 @@ fn action_node(
     uses: &Uses,
 ) -> Mem<(EntityUID, ValidatorActionId)>
     ensures { IfOk result
-        (IsActionNode (names_of all_defs.now) children.now.entries uses.now (uid, outline)) }
+        (IsActionNode (names_of all_defs.now) children.now uses.now (uid, outline)) }
 {
     let principals = types_meant(alloc, all_defs, &outline.applies_to.principal_apply_spec)?;
     let resources = types_meant(alloc, all_defs, &outline.applies_to.resource_apply_spec)?;
@@ -122,7 +122,7 @@ fn action_nodes(
     uses: &Uses,
 ) -> Mem<Map<EntityUID, ValidatorActionId>>
     ensures { IfOk result
-        (AllZip (IsActionNode (names_of all_defs.now) children.now.entries uses.now) outlines) }
+        (AllZip (IsActionNode (names_of all_defs.now) children.now uses.now) outlines) }
 {
     let mut nodes = Vec::with_capacity(alloc, outlines.len())?;
     for (uid, outline) in outlines.into_entries() {

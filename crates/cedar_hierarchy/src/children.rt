@@ -1,43 +1,47 @@
 // SPDX-License-Identifier: Apache-2.0
-ghost use Rattle.std.specs.Prelude.{◌≡◌, ◌&&◌, ◌||◌, None, cond, IfOk, OnOk};
+ghost use Rattle.std.specs.Prelude.{◌≡◌, ◌&&◌, ◌||◌, [], Some, cond, IfOk, OnOk};
 ghost use Rattle.std.specs.BTreeMap.{is_at};
 ghost use Rattle.cedar_data.specs.Maps.{get};
 ghost use Rattle.cedar_data.specs.Sets.{contains};
 ghost use Rattle.cedar_hierarchy.specs.Children.{children_at, is_child};
 
-use cedar_data::{Dup, Mem, Set};
+use cedar_data::{Dup, Map, Mem, Set};
 use std::alloc::Global;
-use std::collections::BTreeMap;
 
 /// The children of each key that is a parent.
-pub(crate) type Children<K> = BTreeMap<K, Set<K>>;
+pub(crate) type Children<K> = Map<K, Set<K>>;
 
-/// Takes the children of a key out.
-fn take_children<K: Ord + Drop>(alloc: Global, parent: &K, children: &mut Children<K>) -> Set<K>
-    ensures taken { result ≡ children_at K.cmp children.old.entries parent.now }
-    ensures others { (other : K) → get K.cmp children.new.entries other
-        ≡ cond (is_at (K.cmp parent.now) other) None (get K.cmp children.old.entries other) }
+/// Takes the children of a key out, so that it has none.
+fn take_children<K: Ord + Dup + Drop>(
+    alloc: Global,
+    parent: &K,
+    children: &mut Children<K>,
+) -> Mem<Set<K>>
+    ensures taken { IfOk result (λ found. found ≡ children_at K.cmp children.old parent.now) }
+    ensures others { OnOk result ((other : K) → get K.cmp children.new other
+        ≡ cond (is_at (K.cmp parent.now) other) (Some []) (get K.cmp children.old other)) }
 {
-    match children.remove(parent) {
-        Some(found) => found,
-        None => Set::new(alloc),
+    let parent = parent.dup(alloc)?;
+    match children.insert(parent, Set::new(alloc))? {
+        Some(found) => Ok(found),
+        None => Ok(Set::new(alloc)),
     }
 }
 
 /// Puts a child under a parent.
-fn add_child<K: Ord + Drop>(
+fn add_child<K: Ord + Dup + Drop>(
     alloc: Global,
     parent: K,
     child: K,
     children: &mut Children<K>,
 ) -> Mem<()>
-    ensures { OnOk result ((p c : K) → is_child K.cmp children.new.entries p c
+    ensures { OnOk result ((p c : K) → is_child K.cmp children.new p c
         ≡ ((is_at (K.cmp p) parent && is_at
-        (K.cmp child) c) || is_child K.cmp children.old.entries p c)) }
+        (K.cmp child) c) || is_child K.cmp children.old p c)) }
 {
-    let mut siblings = take_children(alloc, &parent, children);
+    let mut siblings = take_children(alloc, &parent, children)?;
     siblings.insert(child)?;
-    children.insert(parent, siblings)?;
+    children.put(parent, siblings)?;
     Ok(())
 }
 
@@ -48,9 +52,9 @@ pub(crate) fn link<K: Ord + Dup + Drop>(
     child: &K,
     children: &mut Children<K>,
 ) -> Mem<()>
-    ensures { OnOk result ((p c : K) → is_child K.cmp children.new.entries p c
+    ensures { OnOk result ((p c : K) → is_child K.cmp children.new p c
         ≡ ((contains K.cmp parents.now p && is_at
-        (K.cmp child.now) c) || is_child K.cmp children.old.entries p c)) }
+        (K.cmp child.now) c) || is_child K.cmp children.old p c)) }
 {
     for parent in parents.iter() {
         let parent = parent.dup(alloc)?;
@@ -66,7 +70,7 @@ pub(crate) fn children_of<K: Ord + Dup + Drop>(
     parent: &K,
     children: &Children<K>,
 ) -> Mem<Set<K>>
-    ensures { IfOk result (λ found. found ≡ children_at K.cmp children.now.entries parent.now) }
+    ensures { IfOk result (λ found. found ≡ children_at K.cmp children.now parent.now) }
 {
     match children.get(parent) {
         Some(found) => found.dup(alloc),

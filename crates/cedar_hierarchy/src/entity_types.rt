@@ -27,7 +27,6 @@ use cedar_tables::EntityOutline;
 use cedar_text::{Loc, NonEmpty};
 use cedar_types::{Attributes, OpenTag, Type};
 use std::alloc::Global;
-use std::collections::BTreeMap;
 
 impl HasParents<EntityType> for EntityOutline {
     ghost is_parent = { is_type_parent };
@@ -102,7 +101,7 @@ fn entity_node(
     children: &Children<EntityType>,
     uses: &Uses,
 ) -> Mem<(EntityType, ValidatorEntityType)>
-    ensures { IfOk result (IsEntityNode children.now.entries uses.now (name, outline)) }
+    ensures { IfOk result (IsEntityNode children.now uses.now (name, outline)) }
 {
     let EntityOutline {
         parents: _,
@@ -123,7 +122,7 @@ fn entity_nodes(
     children: &Children<EntityType>,
     uses: &Uses,
 ) -> Mem<Map<EntityType, ValidatorEntityType>>
-    ensures { IfOk result (AllZip (IsEntityNode children.now.entries uses.now) outlines) }
+    ensures { IfOk result (AllZip (IsEntityNode children.now uses.now) outlines) }
 {
     let mut nodes = Vec::with_capacity(alloc, outlines.len())?;
     for (name, outline) in outlines.into_entries() {

@@ -8,7 +8,6 @@ use crate::children::{Children, link};
 use cedar_data::{Dup, Map, Mem, Set};
 use cedar_declared::AllDefs;
 use std::alloc::Global;
-use std::collections::BTreeMap;
 
 /// What has parents, whose keys are `K`.
 pub(crate) trait HasParents<K: Ord> {
@@ -32,11 +31,11 @@ pub(crate) fn gather<K: Ord + Dup + Drop, P: HasParents<K>>(
     outlines: &Map<K, P>,
 ) -> Mem<Children<K>>
     ensures gathered { IfOk result (λ children. (parent child : K)
-        → is_child K.cmp children.entries parent child
+        → is_child K.cmp children parent child
         ≡ has_parent K.cmp (P.is_parent (names_of all_defs.now)) outlines.now parent child) }
     ensures ordered { IsSortedMap K.cmp outlines.now }
 {
-    let mut children = BTreeMap::new(alloc);
+    let mut children = Map::new(alloc);
     for (key, outline) in outlines.iter() {
         let parents = outline.parents(alloc, all_defs)?;
         link(alloc, &parents, key, &mut children)?;

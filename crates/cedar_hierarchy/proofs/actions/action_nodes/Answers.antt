@@ -7,10 +7,10 @@ use Rattle.cedar_hierarchy.proofs.actions.action_nodes.Goals as goal
 
 pub loop-uid-preserved : goal.loop-uid-preserved
 loop-uid-preserved c =
-    Aligned-push (IsActionNode (names_of c.args.all_defs.now) c.args.children.now.entries c.args.uses.now) c.args.outlines c.loop-uid.uid-iterator c.next.new.self c.loop-uid.nodes.items c.push.new.self.items
+    Aligned-push (IsActionNode (names_of c.args.all_defs.now) c.args.children.now c.args.uses.now) c.args.outlines c.loop-uid.uid-iterator c.next.new.self c.loop-uid.nodes.items c.push.new.self.items
     (c.in-Some.uid, c.in-Some.outline) c.in_ok-node.node c.loop-uid.invariant c.in-Some.ensures.steps c.in_ok-node.ensures c.in_ok-push.ensures.items
 
 pub from_sorted-requires : goal.from_sorted-requires
 from_sorted-requires c =
-    in_order uid_cmp (IsActionNode (names_of c.args.all_defs.now) c.args.children.now.entries c.args.uses.now) (λ w e n. n.described.key) c.args.outlines c.loop-uid.uid-iterator c.loop-uid.nodes.items c.loop-uid.invariant
+    in_order uid_cmp (IsActionNode (names_of c.args.all_defs.now) c.args.children.now c.args.uses.now) (λ w e n. n.described.key) c.args.outlines c.loop-uid.uid-iterator c.loop-uid.nodes.items c.loop-uid.invariant
     c.in-None.ensures.steps.0 c.into_entries-uid-items.ensures.ordered

@@ -10,13 +10,13 @@ use Rattle.cedar_hierarchy.proofs.actions.resolved_actions.Goals as goal
 pub returns-clause-made : goal.returns-clause-made
 returns-clause-made c =
     through_ok _ _
-    (actions_made (names_of c.args.all_defs.now) c.args.uses.now c.args.outlines c.in_ok-children.children.entries c.in_ok-nodes.nodes c.in_ok-children.ensures.ordered c.in_ok-children.ensures.gathered c.in_ok-nodes.ensures)
+    (actions_made (names_of c.args.all_defs.now) c.args.uses.now c.args.outlines c.in_ok-children.children c.in_ok-nodes.nodes c.in_ok-children.ensures.ordered c.in_ok-children.ensures.gathered c.in_ok-nodes.ensures)
     c.close_actions.result c.close_actions.ensures.closed
 
 pub returns-clause-acyclic : goal.returns-clause-acyclic
 returns-clause-acyclic c =
     through_ok _ _
-    (λ _. actions_acyclic (names_of c.args.all_defs.now) c.args.uses.now c.args.outlines c.in_ok-children.children.entries c.in_ok-nodes.nodes c.in_ok-children.ensures.ordered c.in_ok-children.ensures.gathered c.in_ok-nodes.ensures)
+    (λ _. actions_acyclic (names_of c.args.all_defs.now) c.args.uses.now c.args.outlines c.in_ok-children.children c.in_ok-nodes.nodes c.in_ok-children.ensures.ordered c.in_ok-children.ensures.gathered c.in_ok-nodes.ensures)
     c.close_actions.result c.close_actions.ensures.acyclic
 
 pub returns-clause-refused : goal.returns-clause-refused
@@ -25,5 +25,5 @@ returns-clause-refused c =
     (λ e t. (
       uid_in t.vertex,
       ap told t.is,
-      least_action (names_of c.args.all_defs.now) c.args.uses.now c.args.outlines c.in_ok-children.children.entries c.in_ok-nodes.nodes c.in_ok-children.ensures.ordered c.in_ok-children.ensures.gathered c.in_ok-nodes.ensures t.vertex t.least,
+      least_action (names_of c.args.all_defs.now) c.args.uses.now c.args.outlines c.in_ok-children.children c.in_ok-nodes.nodes c.in_ok-children.ensures.ordered c.in_ok-children.ensures.gathered c.in_ok-nodes.ensures t.vertex t.least,
     )) c.close_actions.result c.close_actions.ensures.refused

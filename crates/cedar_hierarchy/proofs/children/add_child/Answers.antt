@@ -3,5 +3,5 @@ use Rattle.cedar_hierarchy.proofs.ChildrenLemmas.{added}
 use Rattle.cedar_hierarchy.proofs.children.add_child.Goals as goal
 
 pub returns : goal.returns
-returns g c = λ p x. added g.met.K.Ord.total c.args.children.now.entries c.take_children-siblings.new.children.entries c.insert-2.new.self.entries c.args.parent c.args.child c.take_children-siblings.result c.insert.new.self
-    c.take_children-siblings.ensures.taken c.take_children-siblings.ensures.others c.in_ok-insert.ensures.adds c.in_ok-insert-2.ensures.updates.0 p x
+returns g c = λ p x. added g.met.K.Ord.total c.args.children.now c.take_children.new.children c.put.new.self c.args.parent c.args.child c.in_ok-siblings.siblings c.insert.new.self
+    c.in_ok-siblings.ensures.taken c.in_ok-siblings.ensures.others c.in_ok-insert.ensures.adds c.in_ok-put.ensures.puts p x

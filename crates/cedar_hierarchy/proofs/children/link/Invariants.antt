@@ -8,5 +8,5 @@ use Rattle.cedar_hierarchy.proofs.children.link.Given as goal
 -- the child is under the first parents, so that under those that are left too it is under all
 abbrev pub invariant-loop-parent : goal.invariant-loop-parent
 invariant-loop-parent g l =
-    (p c : g.row.K.Denot) → ((contains g.K.Ord.cmp l.parent-iterator p && is_at (g.K.Ord.cmp l.child) c) || is_child g.K.Ord.cmp l.children.entries p c)
-    ≡ ((contains g.K.Ord.cmp l.parents p && is_at (g.K.Ord.cmp l.child) c) || is_child g.K.Ord.cmp l.initial.children.entries p c)
+    (p c : g.row.K.Denot) → ((contains g.K.Ord.cmp l.parent-iterator p && is_at (g.K.Ord.cmp l.child) c) || is_child g.K.Ord.cmp l.children p c)
+    ≡ ((contains g.K.Ord.cmp l.parents p && is_at (g.K.Ord.cmp l.child) c) || is_child g.K.Ord.cmp l.initial.children p c)

@@ -7,5 +7,5 @@ use Rattle.cedar_hierarchy.proofs.gathered.gather.Given as goal
 -- the first ones are under their parents, and with those that are left they are all
 abbrev pub invariant-loop-key : goal.invariant-loop-key
 invariant-loop-key g l =
-    (parent child : g.row.K.Denot) → (has_parent g.K.Ord.cmp (g.P.HasParents.is_parent (names_of l.all_defs)) l.key-iterator parent child || is_child g.K.Ord.cmp l.children.entries parent child)
+    (parent child : g.row.K.Denot) → (has_parent g.K.Ord.cmp (g.P.HasParents.is_parent (names_of l.all_defs)) l.key-iterator parent child || is_child g.K.Ord.cmp l.children parent child)
     ≡ has_parent g.K.Ord.cmp (g.P.HasParents.is_parent (names_of l.all_defs)) l.outlines parent child
