@@ -10,7 +10,6 @@ ghost use Rattle.std.specs.Ordering.{ordering_then, partial_ordering_then};
 ghost use Rattle.cedar_data.specs.Maps.{get, map_of, get_text, last_value, IsSortedMap, Puts};
 ghost use Rattle.cedar_data.specs.Runs.{first_after};
 
-use crate::boxed::Boxed;
 use crate::comparing::{compare_entries, partially_compare_entries, same_entries};
 use crate::dup::Dup;
 use crate::entries::Entries;
@@ -25,7 +24,7 @@ use std::marker::Model;
 #[derive(Debug, Drop)]
 pub struct Map<K: Ord, V> {
     alloc: Global,
-    map: Entries<K, Boxed<V>>,
+    map: Entries<K, V>,
 }
 
 impl<K: Ord, V> Model for Map<K, V> {
@@ -78,20 +77,14 @@ impl<K: Ord, V> Map<K, V> {
     pub fn get(&self, key: &K) -> Option<&V>
         ensures { option_copied result ≡ get K.cmp self.now key.now }
     {
-        match self.map.get(key) {
-            Some(value) => Some(value.get()),
-            None => None,
-        }
+        self.map.get(key)
     }
 
     /// The first entry whose key is greater than `key`.
     pub fn after(&self, key: &K) -> Option<(&K, &V)>
         ensures { option_map (λ e. (e.0.now, e.1.now)) result ≡ first_after K.cmp key.now self.now }
     {
-        match self.map.after(key) {
-            Some((key, value)) => Some((key, value.get())),
-            None => None,
-        }
+        self.map.after(key)
     }
 
     /// Whether a key is equal to `key` in the order of the keys.
@@ -143,14 +136,7 @@ impl<K: Ord + Drop, V: Drop> Map<K, V> {
         ensures err { OnErr result (self.new ≡ self.old) }
         ensures ordered { IsSortedMap K.cmp self.new }
     {
-        // It tells that the keys are in order where there is no memory for the value.
-        let _len = self.map.len();
-        let value = Boxed::new(self.alloc, value)?;
-        let old = self.map.insert(key, value)?;
-        match old {
-            Some(value) => Ok(Some(value.into_inner())),
-            None => Ok(None),
-        }
+        self.map.insert(key, value)
     }
 
     /// Puts `value` at `key`, in place of the value that was there. It fails only for want of memory, and then changes
@@ -184,12 +170,7 @@ impl<K: Ord + Drop, V: Drop> Map<K, V> {
         requires { IsSortedMap K.cmp entries.items }
         ensures { IfOk result (λ m. m ≡ entries.items) }
     {
-        let mut boxed = Vec::with_capacity(alloc, entries.len())?;
-        for (key, value) in entries {
-            let value = Boxed::new(alloc, value)?;
-            boxed.push((key, value))?;
-        }
-        let map = Entries::of_sorted(alloc, boxed)?;
+        let map = Entries::of_sorted(alloc, entries)?;
         Ok(Map { alloc, map })
     }
 
@@ -199,7 +180,6 @@ impl<K: Ord + Drop, V: Drop> Map<K, V> {
         ensures ok { OnOk result (self.new ≡ self.old ++ (key, value) ∷ []) }
         ensures err { OnErr result (self.new ≡ self.old) }
     {
-        let value = Boxed::new(self.alloc, value)?;
         self.map.push(key, value)
     }
 }
@@ -224,7 +204,6 @@ impl<K: Ord + Dup + Drop, V: Dup + Drop> Dup for Map<K, V> {
         for (key, value) in self.iter() {
             let key = key.dup(alloc)?;
             let value = value.dup(alloc)?;
-            let value = Boxed::new(alloc, value)?;
             copies.push((key, value))?;
         }
         let map = Entries::of_sorted(alloc, copies)?;

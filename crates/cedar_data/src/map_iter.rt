@@ -4,7 +4,6 @@ ghost use Rattle.std.specs.Iterator.{at_most};
 ghost use Rattle.std.specs.Map.{keys_of, values_of};
 ghost use Rattle.std_collections.specs.Map.Iter.{TakesFirst, deref, deref_pair};
 
-use crate::boxed::Boxed;
 use crate::entries_iter::{EntriesIntoIter, EntriesIter};
 use std::iter::{ExactSizeIterator, Iterator};
 use std::marker::Model;
@@ -12,7 +11,7 @@ use std::marker::Model;
 /// The keys of a map, in their order.
 #[derive(Drop)]
 pub struct MapKeys<'a, K: Ord, V> {
-    entries: EntriesIter<'a, K, Boxed<V>>,
+    entries: EntriesIter<'a, K, V>,
 }
 
 impl<'a, K: Ord, V> Model for MapKeys<'a, K, V> {
@@ -25,7 +24,7 @@ impl<'a, K: Ord, V> Model for MapKeys<'a, K, V> {
 }
 
 impl<'a, K: Ord, V> MapKeys<'a, K, V> {
-    pub(crate) fn of(entries: EntriesIter<'a, K, Boxed<V>>) -> MapKeys<'a, K, V>
+    pub(crate) fn of(entries: EntriesIter<'a, K, V>) -> MapKeys<'a, K, V>
         ensures { result ≡ keys_of entries.entry }
     {
         MapKeys { entries }
@@ -61,7 +60,7 @@ impl<'a, K: Ord, V> ExactSizeIterator for MapKeys<'a, K, V> {
 /// The entries of a map, in the order of their keys.
 #[derive(Drop)]
 pub struct MapIter<'a, K: Ord, V> {
-    entries: EntriesIter<'a, K, Boxed<V>>,
+    entries: EntriesIter<'a, K, V>,
 }
 
 impl<'a, K: Ord, V> Model for MapIter<'a, K, V> {
@@ -73,7 +72,7 @@ impl<'a, K: Ord, V> Model for MapIter<'a, K, V> {
 }
 
 impl<'a, K: Ord, V> MapIter<'a, K, V> {
-    pub(crate) fn of(entries: EntriesIter<'a, K, Boxed<V>>) -> MapIter<'a, K, V>
+    pub(crate) fn of(entries: EntriesIter<'a, K, V>) -> MapIter<'a, K, V>
         ensures { result ≡ entries.entry }
     {
         MapIter { entries }
@@ -88,17 +87,14 @@ impl<'a, K: Ord, V> Iterator for MapIter<'a, K, V> {
     ghost remaining = { λ s. at_most (length s) };
 
     fn next(&mut self) -> Option<(&'a K, &'a V)> {
-        match self.entries.next() {
-            Some((key, value)) => Some((key, value.get())),
-            None => None,
-        }
+        self.entries.next()
     }
 }
 
 /// The values of a map, in the order of their keys.
 #[derive(Drop)]
 pub struct MapValues<'a, K: Ord, V> {
-    entries: EntriesIter<'a, K, Boxed<V>>,
+    entries: EntriesIter<'a, K, V>,
 }
 
 impl<'a, K: Ord, V> Model for MapValues<'a, K, V> {
@@ -111,7 +107,7 @@ impl<'a, K: Ord, V> Model for MapValues<'a, K, V> {
 }
 
 impl<'a, K: Ord, V> MapValues<'a, K, V> {
-    pub(crate) fn of(entries: EntriesIter<'a, K, Boxed<V>>) -> MapValues<'a, K, V>
+    pub(crate) fn of(entries: EntriesIter<'a, K, V>) -> MapValues<'a, K, V>
         ensures { result ≡ values_of entries.entry }
     {
         MapValues { entries }
@@ -127,7 +123,7 @@ impl<'a, K: Ord, V> Iterator for MapValues<'a, K, V> {
 
     fn next(&mut self) -> Option<&'a V> {
         match self.entries.next() {
-            Some((_, value)) => Some(value.get()),
+            Some((_, value)) => Some(value),
             None => None,
         }
     }
@@ -147,7 +143,7 @@ impl<'a, K: Ord, V> ExactSizeIterator for MapValues<'a, K, V> {
 /// The entries of a map by value, in the order of their keys.
 #[derive(Drop)]
 pub struct MapIntoIter<K: Ord, V> {
-    entries: EntriesIntoIter<K, Boxed<V>>,
+    entries: EntriesIntoIter<K, V>,
 }
 
 impl<K: Ord, V> Model for MapIntoIter<K, V> {
@@ -159,7 +155,7 @@ impl<K: Ord, V> Model for MapIntoIter<K, V> {
 }
 
 impl<K: Ord, V> MapIntoIter<K, V> {
-    pub(crate) fn of(entries: EntriesIntoIter<K, Boxed<V>>) -> MapIntoIter<K, V>
+    pub(crate) fn of(entries: EntriesIntoIter<K, V>) -> MapIntoIter<K, V>
         ensures { result ≡ entries }
     {
         MapIntoIter { entries }
@@ -174,9 +170,6 @@ impl<K: Ord + Drop, V: Drop> Iterator for MapIntoIter<K, V> {
     ghost remaining = { λ s. at_most (length s) };
 
     fn next(&mut self) -> Option<(K, V)> {
-        match self.entries.next() {
-            Some((key, value)) => Some((key, value.into_inner())),
-            None => None,
-        }
+        self.entries.next()
     }
 }

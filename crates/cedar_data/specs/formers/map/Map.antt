@@ -19,8 +19,6 @@ use Rattle.std.specs.declared.cmp.PartialEq as eq
 use Rattle.std.specs.declared.cmp.PartialOrd as partial
 use Rattle.std_collections.specs.Map.{values_of}
 use Rattle.std_collections.specs.Layout.Former.{entry, on_value, entries_puts, values_listed, entries_recoded}
-use Rattle.cedar_data.specs.contracts.boxed.Boxed as B
-use Rattle.cedar_data.specs.formers.boxed.Boxed as boxed
 use Rattle.cedar_data.specs.formers.entries.Entries as entries
 use Rattle.cedar_data.specs.declared.map.Map.TheInside.{Inside}
 use Rattle.cedar_data.specs.declared.map.Map.TheView.{view, invariant}
@@ -45,9 +43,9 @@ the_items K X es = values_of es
 pub the_items_listed : (K X : Type 0) (es : List (K × X)) → listed _ (children (the_former this K) X es) ≡ the_items K X es
 the_items_listed K X es = values_listed K X es
 
--- the fields, of which one is entries of boxed values
+-- the fields, of which one is entries
 abbrev fields : Type 0 → Former {0}
-fields K = via (pair (const Global) (entries.the_former (boxed.the_former this) K)) (λ X. Inside K X) (λ X inside. (inside.alloc, inside.map)) (λ X v. record { alloc = v.0; map = v.1 }) (λ X inside. refl) (λ X v. refl)
+fields K = via (pair (const Global) (entries.the_former this K)) (λ X. Inside K X) (λ X inside. (inside.alloc, inside.map)) (λ X v. record { alloc = v.0; map = v.1 }) (λ X inside. refl) (λ X v. refl)
 
 module _ (K : RattleType) (G : ord.Ghosts K.Denot) (G' : eq.Ghosts K.Denot) (G'' : partial.Ghosts K.Denot) (R S : RattleType) (h : R.Denot → S.Denot) where
   pub the_places : Alike R S h → Alike (C.the_row K R G G' G'') (C.the_row K S G G' G'') ((the_former this K.Denot).map R.Denot S.Denot h)
@@ -55,7 +53,7 @@ module _ (K : RattleType) (G : ord.Ghosts K.Denot) (G' : eq.Ghosts K.Denot) (G''
       (C.the_row K R G G' G'').coded (C.the_row K S G G' G'').coded (invariant K.Denot R.Denot G G' G'') (invariant K.Denot S.Denot G G' G'')
       (λ u p q. refl) (λ u p q. refl) (λ u e. tt) (λ u e. tt) (over (I.the_row K R G G' G'')) (over (I.the_row K S G G' G''))
       (struct_places (I.the_type K R G G' G'') (I.the_type K S G G' G'') ((λ n. n), ((entries.the_former this K.Denot).map R.Denot S.Denot h, tt)) _ (λ d. refl) refl
-      ((refl, (λ n. refl, λ n. refl)), (laid _ _ _ (entries.the_places K G G' G'' (B.the_row R) (B.the_row S) h (boxed.the_places R S h alike)), tt)))
+      ((refl, (λ n. refl, λ n. refl)), (laid _ _ _ (entries.the_places K G G' G'' R S h alike), tt)))
 
   pub the_codes_placed : Recodes R S h → Recodes (C.the_row K R G G' G'') (C.the_row K S G G' G'') ((the_former this K.Denot).map R.Denot S.Denot h)
   the_codes_placed recodes es = entries_recoded K R S h recodes es
