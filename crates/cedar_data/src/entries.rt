@@ -167,7 +167,30 @@ fn push_among<K: Ord + Drop, V: Drop>(
     Ok(())
 }
 
-/// Puts an entry after all others. Nothing is searched for, unless the one run is full.
+/// The run, and an entry after all others in a run of its own. What is left is empty then.
+fn continued<K: Ord + Drop, V: Drop>(
+    alloc: Global,
+    run: &mut Run<K, V>,
+    key: K,
+    value: V,
+) -> Mem<Vec<Run<K, V>>>
+    requires some { run.old ≢ [] }
+    requires last { IsStrictlySortedBy K.cmp (keys_of run.old ++ key ∷ []) }
+    ensures ok { IfOk result
+        (λ runs. AreRuns K.cmp runs.items × (all_runs runs.items ≡ run.old ++ (key, value) ∷ [])) }
+    ensures err { OnErr result (run.new ≡ run.old) }
+{
+    let mut runs = Vec::with_capacity(alloc, 2)?;
+    // entries that come in order fill each run
+    let mut more = Run::with_room(alloc, MOST)?;
+    more.push(key, value)?;
+    let first = mem::replace(run, Run::new(alloc));
+    runs.push(first)?;
+    runs.push(more)?;
+    Ok(runs)
+}
+
+/// Puts an entry after all others. Nothing is searched for.
 fn append<K: Ord + Drop, V: Drop>(alloc: Global, held: &mut Held<K, V>, key: K, value: V) -> Mem<()>
     requires held { IsOrderedHeld K.cmp held.old }
     requires last { IsStrictlySortedBy K.cmp (keys_of (entries_held held.old) ++ key ∷ []) }
@@ -176,15 +199,16 @@ fn append<K: Ord + Drop, V: Drop>(alloc: Global, held: &mut Held<K, V>, key: K, 
     ensures err { OnErr result (entries_held held.new ≡ entries_held held.old) }
     ensures ordered { IsOrderedHeld K.cmp held.new }
 {
-    match held {
+    let runs = match held {
         Held::Several(runs) => return push_among(alloc, runs, key, value),
         Held::One(run) => {
             if run.len() < MOST {
                 return run.push(key, value);
             }
+            continued(alloc, run, key, value)?
         }
-    }
-    put_found(alloc, held, key, value)?;
+    };
+    *held = Held::Several(runs);
     Ok(())
 }
 
