@@ -18,6 +18,7 @@ use Rattle.std.specs.List.Sorted.{IsStrictlySortedBy}
 use Rattle.std.specs.Map.{keys_of}
 use Rattle.std.specs.Option.{IsSomeAnd}
 use Rattle.std.specs.Ordering.{ordering_reverse, is_eq}
+use Rattle.cedar_data.proofs.Rebuild.{sorted_next}
 use Rattle.cedar_data.specs.Maps.{get, IsSortedMap}
 use Rattle.cedar_data.specs.Sets.{contains}
 use Rattle.cedar_closure.specs.Chains.{Reaches, one, more}
@@ -128,11 +129,10 @@ module _ {K V : Type 0} {cmp : K → K → Ordering} (total : IsTotalOrder cmp) 
         All-contains (λ entry. IsStrictlySortedBy cmp (edges entry.1)) nodes (k, node) of.edges_ordered
         (subst (λ l. Contains l (k, node)) (sym around) (Contains-append_right sofar.done ((k, node) ∷ later) (k, node) (0, omega arith, refl)))
 
-    -- after the last node, the keys of the closed nodes are in order
-    pub Closing-sorted : {enforce : Bool} {left : List (K × V)} {marks : List ℕ} {closed : List (K × V)} → IsSortedMap cmp nodes → Closing cmp key edges rest nodes keys enforce left marks closed → left ≡ [] → IsSortedMap cmp closed
-    Closing-sorted {closed = closed} sorted sofar none =
-        let all : sofar.done ≡ nodes = sym (append-nil sofar.done) ∙ ap (λ l. sofar.done ++ l) (sym none) ∙ sofar.split in
-        subst (λ ks. IsStrictlySortedBy cmp ks) (sym (keys_of_zip cmp key edges rest (HasEdge cmp edges nodes) sofar.done closed sofar.zip ∙ ap keys_of all)) sorted
+    -- the next key is after those of the closed nodes
+    pub Closing-last : {enforce : Bool} {left later : List (K × V)} {marks : List ℕ} {closed : List (K × V)} (k : K) (node : V) → IsSortedMap cmp nodes → Closing cmp key edges rest nodes keys enforce left marks closed → left ≡ (k, node) ∷ later → IsStrictlySortedBy cmp (keys_of closed ++ k ∷ [])
+    Closing-last {closed = closed} k node sorted sofar first =
+        subst (λ ks. IsStrictlySortedBy cmp (ks ++ k ∷ [])) (sym (keys_of_zip cmp key edges rest (HasEdge cmp edges nodes) sofar.done closed sofar.zip)) (sorted_next cmp sofar.done sofar.split first refl sorted)
 
     module _ {enforce : Bool} {left later : List (K × V)} {marks : List ℕ} {closed : List (K × V)} (k : K) (node : V) (sorted : IsSortedMap cmp nodes)
         (sofar : Closing cmp key edges rest nodes keys enforce left marks closed) (first : left ≡ (k, node) ∷ later) (rows : List (List ℕ)) (made : rows ≡ rows_at cmp edges nodes keys) where

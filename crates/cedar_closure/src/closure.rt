@@ -114,16 +114,15 @@ fn close_nodes<K: TcKey, V: TcNode<K>>(
     ensures refused { IfRefused result (λ error. IsTrue enforce_dag ×
         ((vertex : K) × (error ≡ HasCycle vertex) × IsLeastOnCycle K.cmp V.edges nodes vertex)) }
 {
-    let mut closed = Vec::with_capacity(alloc, nodes.len())?;
+    let mut closed = Map::with_room(alloc, nodes.len())?;
     for (key, mut node) in nodes.into_entries() {
         let returns = close_any_edges(alloc, keys, rows, marks, &key, &mut node)?;
         if returns && enforce_dag {
             return Err(Failure::Refused(TcError::HasCycle { vertex: key }));
         }
-        closed.push((key, node))?;
+        closed.push_last(key, node)?;
     }
-    let closed_nodes = Map::from_sorted(alloc, closed)?;
-    Ok(closed_nodes)
+    Ok(closed)
 }
 
 /// Whether an edge leads from the node.

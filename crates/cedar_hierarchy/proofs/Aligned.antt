@@ -6,6 +6,7 @@ use Rattle.std.specs.List.{AllZip}
 use Rattle.std.specs.List.Sorted.{IsStrictlySortedBy}
 use Rattle.std.specs.Map.{keys_of}
 use Rattle.std.specs.declared.cmp.Ordering.{Ordering}
+use Rattle.cedar_data.proofs.Rebuild.{sorted_next}
 use Rattle.cedar_data.specs.Maps.{IsSortedMap}
 
 module _ {W E : Type 0} (R : W → E → Type 0) where
@@ -36,7 +37,7 @@ module _ {W E : Type 0} (R : W → E → Type 0) where
   pub Aligned-end : (whole left : List W) (made : List E) → Aligned whole left made → left ≡ [] → AllZip R whole made
   Aligned-end whole left made sofar none = subst (λ ws. AllZip R ws made) (sym (append-nil sofar.done) ∙ ap (λ l. sofar.done ++ l) (sym none) ∙ sofar.split) sofar.each
 
--- entries under the keys of items in order are in order
+-- the next of entries under the keys of items in order is after the others
 module _ {K X Y : Type 0} (cmp : K → K → Ordering) (R : K × X → K × Y → Type 0) (key_is : (w : K × X) (e : K × Y) → R w e → e.0 ≡ w.0) where
   same_keys : (ws : List (K × X)) (es : List (K × Y)) → AllZip R ws es → keys_of es ≡ keys_of ws
   same_keys [] [] z = refl
@@ -44,5 +45,6 @@ module _ {K X Y : Type 0} (cmp : K → K → Ordering) (R : K × X → K × Y �
   same_keys (w ∷ ws) [] z = absurd z
   same_keys (w ∷ ws) (e ∷ es) z = λ i. key_is w e z.0 i ∷ same_keys ws es z.1 i
 
-  pub in_order : (ws left : List (K × X)) (es : List (K × Y)) → Aligned R ws left es → left ≡ [] → IsSortedMap cmp ws → IsSortedMap cmp es
-  in_order ws left es sofar none sorted = subst (λ ks. IsStrictlySortedBy cmp ks) (sym (same_keys ws es (Aligned-end R ws left es sofar none))) sorted
+  pub next_in_order : {ws left rest : List (K × X)} {es : List (K × Y)} {w : K × X} (e : K × Y) → Aligned R ws left es → left ≡ w ∷ rest → R w e → IsSortedMap cmp ws → IsStrictlySortedBy cmp (keys_of es ++ e.0 ∷ [])
+  next_in_order {ws} {left} {rest} {es} {w} e sofar first r sorted =
+      subst (λ ks. IsStrictlySortedBy cmp (ks ++ e.0 ∷ [])) (sym (same_keys sofar.done es sofar.each)) (sorted_next cmp sofar.done sofar.split first (key_is w e r) sorted)

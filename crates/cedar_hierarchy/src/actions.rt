@@ -124,12 +124,12 @@ fn action_nodes(
     ensures { IfOk result
         (AllZip (IsActionNode (names_of all_defs.now) children.now uses.now) outlines) }
 {
-    let mut nodes = Vec::with_capacity(alloc, outlines.len())?;
+    let mut nodes = Map::with_room(alloc, outlines.len())?;
     for (uid, outline) in outlines.into_entries() {
-        let node = action_node(alloc, all_defs, uid, outline, children, uses)?;
-        nodes.push(node)?;
+        let (key, action) = action_node(alloc, all_defs, uid, outline, children, uses)?;
+        nodes.push_last(key, action)?;
     }
-    Map::from_sorted(alloc, nodes)
+    Ok(nodes)
 }
 
 /// The same actions with all that descend from them; refused with the least that descends from itself.

@@ -124,12 +124,12 @@ fn entity_nodes(
 ) -> Mem<Map<EntityType, ValidatorEntityType>>
     ensures { IfOk result (AllZip (IsEntityNode children.now uses.now) outlines) }
 {
-    let mut nodes = Vec::with_capacity(alloc, outlines.len())?;
+    let mut nodes = Map::with_room(alloc, outlines.len())?;
     for (name, outline) in outlines.into_entries() {
-        let node = entity_node(alloc, name, outline, children, uses)?;
-        nodes.push(node)?;
+        let (key, ty) = entity_node(alloc, name, outline, children, uses)?;
+        nodes.push_last(key, ty)?;
     }
-    Map::from_sorted(alloc, nodes)
+    Ok(nodes)
 }
 
 /// The same entity types with all that descend from them.

@@ -5,4 +5,4 @@ use Rattle.cedar_hierarchy.proofs.entity_types.entity_nodes.Given as goal
 
 -- the first outlines have their nodes
 abbrev pub invariant-loop-name : goal.invariant-loop-name
-invariant-loop-name l = Aligned (IsEntityNode l.children l.uses) l.fn.outlines l.name-iterator l.nodes.items
+invariant-loop-name l = Aligned (IsEntityNode l.children l.uses) l.fn.outlines l.name-iterator l.nodes
