@@ -24,6 +24,7 @@ use std::alloc::Global;
 fn append_uses(more: Vec<Use>, uses: &mut Vec<Use>) -> Mem<()>
     ensures { OnOk result (uses.new.items ≡ uses.old.items ++ more.items) }
 {
+    uses.reserve(more.len())?;
     for entry in more {
         uses.push(entry)?;
     }

@@ -49,6 +49,7 @@ pub(crate) struct Declarations {
 fn append_entries<K: Ord + Drop, V: Drop>(map: Map<K, V>, entries: &mut Vec<(K, V)>) -> Mem<()>
     ensures { OnOk result (entries.new.items ≡ entries.old.items ++ map) }
 {
+    entries.reserve(map.len())?;
     for (key, value) in map.into_entries() {
         entries.push((key, value))?;
     }
@@ -77,6 +78,7 @@ fn append_placed<T: Drop>(
 ) -> Mem<()>
     ensures { OnOk result (entries.new.items ≡ entries.old.items ++ map (placed_by locs.now) defs) }
 {
+    entries.reserve(defs.len())?;
     for (name, fragment) in defs.into_entries() {
         let loc = place_at(alloc, locs, &name)?;
         entries.push((name, Placed { fragment, loc }))?;
