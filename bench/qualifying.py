@@ -8,15 +8,16 @@ PROGRAM is a built program that has the names of its functions. The texts are en
 types with nested records, in no namespace and in one. What is counted are the walks
 that the crate of namespace definitions starts: they go over the declarations as they
 are written, make each anew, and give each name in it the full names that it may stand
-for. The share is that of their instructions under `valgrind --tool=callgrind`, and the
-microseconds are this share of the best of three runs, for each name that is written.
+for. The share is that of their instructions under `valgrind --tool=callgrind`, with the
+settings of the allocator that the timed runs have too, and the microseconds are this
+share of the best of three runs, for each name that is written.
 """
 import re
 import subprocess
 import sys
 import tempfile
 
-from measure import best_of_three, print_head, print_row, written
+from measure import best_of_three, print_head, print_row, tuned, written
 from shares import has_names
 
 CALLER = "cedar_namespace_definitions::"
@@ -48,7 +49,8 @@ def instructions(program, path):
     """All instructions of `check`, and those of the walks."""
     with tempfile.NamedTemporaryFile() as counted, open(path, "rb") as source:
         words = ["valgrind", "--tool=callgrind", f"--callgrind-out-file={counted.name}", program, "check"]
-        subprocess.run(words, stdin=source, stdout=subprocess.DEVNULL, stderr=subprocess.DEVNULL, check=True)
+        quiet = subprocess.DEVNULL
+        subprocess.run(words, stdin=source, stdout=quiet, stderr=quiet, env=tuned(), check=True)
         words = ["callgrind_annotate", "--tree=calling", "--inclusive=yes", "--threshold=100", counted.name]
         told = subprocess.run(words, stdout=subprocess.PIPE, check=True).stdout.decode()
     whole = int(re.search(r"([\d,]+) .*PROGRAM TOTALS", told).group(1).replace(",", ""))
