@@ -1,0 +1,4 @@
+-- SPDX-License-Identifier: Apache-2.0
+pub use Rattle.cedar_data.specs.formers
+pub mod Tokens
+pub mod Apart

@@ -1,0 +1,15 @@
+-- SPDX-License-Identifier: Apache-2.0
+pub mod Actions
+pub mod Annotated
+pub mod Classes
+pub mod Entities
+pub mod Lists
+pub mod MovesBack
+pub mod Nested
+pub mod Opened
+pub mod OpenedWhole
+pub mod Paths
+pub mod Reading
+pub mod Shapes
+pub mod Sorted
+pub mod Types

@@ -1,0 +1,10 @@
+-- SPDX-License-Identifier: Apache-2.0
+pub mod Actions
+pub mod Definitions
+pub mod Entities
+pub mod Fragments
+pub mod FullNames
+pub mod GivenNames
+pub mod Lists
+pub mod Namespaces
+pub mod Types

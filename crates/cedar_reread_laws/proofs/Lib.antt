@@ -1,0 +1,15 @@
+-- SPDX-License-Identifier: Apache-2.0
+mod Conditions
+mod Denoting
+mod FaultsKept
+mod Known
+mod MapsBack
+mod NestsAlike
+mod Places
+mod Placed
+mod Printing
+mod SoundParts
+mod SoundTypes
+mod Wholes
+mod WorldPlaceless
+mod WorldReread

@@ -1,0 +1,11 @@
+-- SPDX-License-Identifier: Apache-2.0
+pub mod Actions
+pub mod Declarations
+pub mod Empty
+pub mod Ends
+pub mod Fitting
+pub mod Names
+pub mod Pieces
+pub mod Printing
+pub mod Types
+pub mod Worded

@@ -1,0 +1,3 @@
+// SPDX-License-Identifier: Apache-2.0
+//! Laws of what is printed.
+#![tactic(auto)]
