@@ -86,7 +86,7 @@ names_free F = free_namespaces F.0
 
 -- ---- what holds of each key holds of what is declared
 
-equal : (o : Ordering) → is_eq o ≡ true → o ≡ Equal
+pub equal : (o : Ordering) → is_eq o ≡ true → o ≡ Equal
 equal Less e = cc
 equal Equal e = refl
 equal Greater e = cc

@@ -5,6 +5,7 @@ mod FaultsKept
 mod Known
 mod MapsBack
 mod NestsAlike
+mod NoCollisions
 mod Places
 mod Placed
 mod Printing

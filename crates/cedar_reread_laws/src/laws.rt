@@ -1,9 +1,10 @@
 // SPDX-License-Identifier: Apache-2.0
-ghost use Rattle.std.specs.Prelude.{◌≡◌, ℕ, List, IsUtf8};
+ghost use Rattle.std.specs.Prelude.{◌≡◌, ℕ, List, [], IsUtf8};
 ghost use Rattle.cedar_convert_fragment.specs.Fragments.{Fragment};
 ghost use Rattle.cedar_convert_fragment.specs.Views.{fragment_seen};
 ghost use Rattle.cedar_convert_text.specs.Texts.{DeclaresText};
 ghost use Rattle.cedar_convert_warnings.specs.declared.warnings.SchemaWarning.{SchemaWarning};
+ghost use Rattle.cedar_fmt.specs.Collisions.{collisions};
 ghost use Rattle.cedar_fragment.specs.ActionUids.{over_raw};
 ghost use Rattle.cedar_fragment.specs.declared.definitions.Fragment as held;
 ghost use Rattle.cedar_fragment_world.specs.FragmentWorlds.{world_of_fragment};
@@ -21,6 +22,13 @@ ghost use Rattle.cedar_world.specs.Schemas.{Schema};
 ghost use Rattle.cedar_written.specs.declared.raw_name.RawName.{RawName};
 
 use cedar_convert_laws::places_left_out;
+
+/// A law: a printable fragment has no name of a named namespace that is both an entity type and a common type, so its text
+/// isn't refused. It does nothing when it runs.
+pub fn what_is_printable_is_not_refused()
+    ensures { (F : held.Fragment RawName over_raw) (X : Extensions)
+        → IsPrintable (fragment_seen F) (extension_words X) → collisions F ≡ [] }
+{}
 
 /// A law: the text that is printed of a sound and printable fragment declares that fragment, read again: each name that
 /// stood for a type of one kind is one of either kind, and what wasn't said is said to be empty. Places aside. It does
