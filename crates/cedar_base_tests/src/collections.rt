@@ -24,9 +24,21 @@ fn items(alloc: Global) -> Option<Items<u32>> {
 /// Whether these are the numbers 1 and 2.
 fn is_one_and_two(made: Option<Items<u32>>) -> bool {
     match made {
-        Some(items) => { items.as_slice() == [1, 2].as_slice() && items.into_vec().len() == 2 }
+        Some(items) => {
+            items.as_slice() == [1, 2].as_slice() && items.len() == 2 && items.into_vec().len() == 2
+        }
         None => false,
     }
+}
+
+/// A box of 7.
+fn boxed(alloc: Global) -> Option<Boxed<u32>> {
+    Boxed::new(alloc, 7u32).ok()
+}
+
+/// A shared 8.
+fn shared(alloc: Global) -> Option<Shared<u32>> {
+    Shared::new(alloc, 8u32).ok()
 }
 
 /// The map from 1 to 11 and from 2 to 21, each put in place of another value.
@@ -46,9 +58,13 @@ fn map_of_pairs(alloc: Global) -> Option<Map<u32, u32>> {
 
 /// Whether this is the map from 1 to 11 and from 2 to 21.
 fn is_map(made: Option<Map<u32, u32>>) -> bool {
-    let Some(map) = made else {
-        return false;
-    };
+    match made {
+        Some(map) => is_found(&map),
+        None => false,
+    }
+}
+
+fn is_found(map: &Map<u32, u32>) -> bool {
     let found = (
         map.get(&1).copied(),
         map.get(&2).copied(),
@@ -93,14 +109,8 @@ fn texts_lists_and_boxes(rt: HostRuntime) -> Result<(), Fail> {
         ("a text is copied", is_copied(alloc, text(alloc, "aé€😀"))),
         ("items are kept", is_one_and_two(items(alloc))),
         ("items are copied", is_copied(alloc, items(alloc))),
-        (
-            "a box is copied",
-            is_copied(alloc, Boxed::new(alloc, 7u32).ok()),
-        ),
-        (
-            "a shared value is copied",
-            is_copied(alloc, Shared::new(alloc, 8u32).ok()),
-        ),
+        ("a box is copied", is_copied(alloc, boxed(alloc))),
+        ("a shared value is copied", is_copied(alloc, shared(alloc))),
         ("an option is copied", is_copied(alloc, Some(Some(3u32)))),
     ])
 }

@@ -62,6 +62,11 @@ fn written<T: Display>(alloc: Global, value: &T) -> Mem<String> {
     Ok(format!(in alloc; "{value}")?)
 }
 
+/// Whether there is no help, and memory for it didn't lack.
+pub fn has_no_help(help: Mem<Option<String>>) -> bool {
+    matches!(&help, Ok(None))
+}
+
 /// A value that may have a place.
 pub trait Placed {
     fn place(&self) -> Option<&Loc>;

@@ -1,7 +1,7 @@
 // SPDX-License-Identifier: Apache-2.0
 use crate::holding::{all_hold, are_equal, is_copied, is_written};
 use crate::making::{placed_name, text, uid};
-use cedar_data::{Failure, Out};
+use cedar_data::{Failure, Out, Text};
 use cedar_names::{Annotation, Annotations, AnyId, Id, InternalName, Name, UnreservedId};
 use cedar_text::NameFault;
 use std::alloc::Global;
@@ -14,7 +14,14 @@ fn known(alloc: Global) -> Option<UnreservedId> {
 
 /// The name of the words `A` and `B`.
 fn of_words(alloc: Global) -> Option<Name> {
-    let words = vec![in alloc; text(alloc, "A")?, text(alloc, "B")?].ok()?;
+    let first = text(alloc, "A")?;
+    let second = text(alloc, "B")?;
+    of_two(alloc, first, second)
+}
+
+/// The name of these two words.
+fn of_two(alloc: Global, first: Text, second: Text) -> Option<Name> {
+    let words = vec![in alloc; first, second].ok()?;
     Name::of_words(alloc, words).ok()
 }
 
@@ -63,20 +70,28 @@ fn annotations(alloc: Global) -> Option<Annotations> {
 /// Whether the second annotation stays, and is the only one.
 fn is_second(made: Option<Annotations>) -> bool {
     match made {
-        Some(annotations) => {
-            has_second(&annotations)
-                && annotations.get("is").is_none()
-                && annotations.iter().count() == 1
-        }
+        Some(annotations) => has_second(&annotations),
         None => false,
     }
 }
 
 fn has_second(annotations: &Annotations) -> bool {
-    match annotations.get("in") {
-        Some(found) => found.val.as_str() == "second",
+    is_value(annotations.get("in"), "second")
+        && annotations.get("is").is_none()
+        && annotations.iter().count() == 1
+}
+
+/// Whether an annotation is there, and has this value.
+fn is_value(found: Option<&Annotation>, value: &str) -> bool {
+    match found {
+        Some(annotation) => annotation.val.as_str() == value,
         None => false,
     }
+}
+
+/// Whether there are no annotations before one is put.
+fn is_empty_at_first(alloc: Global) -> bool {
+    Annotations::new(alloc).is_empty()
 }
 
 #[test]
@@ -118,7 +133,7 @@ fn of_entities_and_annotations(rt: HostRuntime) -> Result<(), Fail> {
             "an entity is written",
             is_written(alloc, uid(alloc), "A::B::\"x\\'y\""),
         ),
-        ("no annotations", Annotations::new(alloc).is_empty()),
+        ("no annotations", is_empty_at_first(alloc)),
         ("the second stays", is_second(annotations(alloc))),
         (
             "annotations are copied",

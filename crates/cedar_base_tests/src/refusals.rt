@@ -1,5 +1,5 @@
 // SPDX-License-Identifier: Apache-2.0
-use crate::holding::{all_hold, is_written};
+use crate::holding::{all_hold, has_no_help, is_written};
 use crate::making::{id, text};
 use cedar_data::{Failure, Mem, Text};
 use cedar_names::{Extensions, ExtensionsFault, InternalName, ReservedNameError, UnreservedId};
@@ -10,11 +10,14 @@ use std::test::Fail;
 
 /// Whether there is neither help nor a place.
 fn is_bare(help: Mem<Option<String>>, spans: Mem<Vec<Span>>) -> bool {
-    let has_no_spans = match &spans {
+    has_no_help(help) && has_no_place(spans)
+}
+
+fn has_no_place(spans: Mem<Vec<Span>>) -> bool {
+    match &spans {
         Ok(spans) => spans.is_empty(),
         Err(_) => false,
-    };
-    matches!(&help, Ok(None)) && has_no_spans
+    }
 }
 
 /// The name `Long`.
@@ -66,11 +69,16 @@ fn is_missing_edge_bare(alloc: Global) -> bool {
     is_bare(missing.help(alloc), missing.spans(alloc))
 }
 
-/// `__cedar`, at the place from 1 to 8.
+/// The place from 1 to 8 of ` __cedar`.
+fn place(alloc: Global) -> Option<Loc> {
+    let src = text(alloc, " __cedar")?;
+    Some(Loc::new(1, 8, src))
+}
+
+/// `__cedar`, at that place.
 fn placed(alloc: Global) -> Option<ReservedNameError> {
     let id = id(alloc, "__cedar")?;
-    let src = text(alloc, " __cedar")?;
-    let name = InternalName::unqualified_name(alloc, id, Some(Loc::new(1, 8, src)));
+    let name = InternalName::unqualified_name(alloc, id, place(alloc));
     Some(ReservedNameError { name })
 }
 

@@ -1,9 +1,8 @@
 // SPDX-License-Identifier: Apache-2.0
-use crate::holding::{all_hold, are_equal, is_copied, is_written};
-use crate::making::{FIRST, SECOND, errors_of, extra, repeated, stray, text};
-use cedar_data::Mem;
-use cedar_names::Span;
-use cedar_syntax::{ParseError, ParseErrors};
+use crate::holding::{all_hold, are_equal, has_no_help, is_copied, is_written};
+use crate::tree_making::{FIRST, SECOND, extra, stray};
+use cedar_text::Span;
+use cedar_tree::{ParseError, ParseErrors};
 use std::alloc::Global;
 use std::test::Fail;
 
@@ -54,13 +53,18 @@ fn are_iterated(made: Option<ParseErrors>) -> bool {
 }
 
 fn are_in_turn(errors: &ParseErrors) -> bool {
-    let mut count = 0u32;
-    let mut is_right = true;
-    for (error, span) in errors.iter().zip([FIRST, SECOND]) {
-        is_right = is_right && error.primary_source_span() == span;
-        count = count.saturating_add(1);
+    let mut iterated = errors.iter();
+    let places = [place_of(iterated.next()), place_of(iterated.next())];
+    let is_end = iterated.next().is_none();
+    places == [Some(FIRST), Some(SECOND)] && is_end && errors.iter().count() == 2
+}
+
+/// The place of an error, if there is one.
+fn place_of(error: Option<&ParseError>) -> Option<Span> {
+    match error {
+        Some(error) => Some(error.primary_source_span()),
+        None => None,
     }
-    is_right && count == 2 && errors.iter().count() == 2
 }
 
 #[test]
@@ -68,6 +72,7 @@ fn keep_their_order(rt: HostRuntime) -> Result<(), Fail> {
     let alloc = rt.alloc();
     all_hold(&[
         ("errors are copied", is_copied(alloc, two_errors(alloc))),
+        ("a token too many is copied", is_copied(alloc, extra(alloc))),
         (
             "their places are told",
             are_in_order(places(alloc, two_errors(alloc))),
@@ -92,16 +97,12 @@ fn others(made: Option<ParseErrors>) -> Option<usize> {
     }
 }
 
-/// Whether there is no help.
-fn has_no_help(alloc: Global, made: Option<ParseErrors>) -> bool {
+/// Whether errors have no help.
+fn lack_help(alloc: Global, made: Option<ParseErrors>) -> bool {
     match made {
-        Some(errors) => is_nothing(errors.help(alloc)),
+        Some(errors) => has_no_help(errors.help(alloc)),
         None => false,
     }
-}
-
-fn is_nothing(help: Mem<Option<String>>) -> bool {
-    matches!(&help, Ok(None))
 }
 
 /// Whether no errors are made of none.
@@ -124,34 +125,10 @@ fn are_taken_apart_and_put_together(rt: HostRuntime) -> Result<(), Fail> {
             are_equal(first_of(two_errors(alloc)), stray(alloc, FIRST, "{")) == same,
         ),
         ("one is left", others(two_errors(alloc)) == Some(1)),
-        ("they have no help", has_no_help(alloc, two_errors(alloc))),
+        ("they have no help", lack_help(alloc, two_errors(alloc))),
         (
             "they are told by their first",
             is_written(alloc, two_errors(alloc), "unexpected token `{`"),
         ),
-    ])
-}
-
-/// The error that the key `a` stands twice.
-fn repeated_error(alloc: Global) -> Option<ParseError> {
-    let src = text(alloc, "@a @a")?;
-    let kind = repeated(alloc)?;
-    Some(ParseError { kind, src })
-}
-
-#[test]
-fn of_a_text(rt: HostRuntime) -> Result<(), Fail> {
-    let alloc = rt.alloc();
-    let first = first_of(errors_of(alloc, "@a @a"));
-    all_hold(&[
-        (
-            "a repeated key",
-            are_equal(first, repeated_error(alloc)) == Some(true),
-        ),
-        (
-            "no other error",
-            others(errors_of(alloc, "@a @a")) == Some(0),
-        ),
-        ("a token too many is copied", is_copied(alloc, extra(alloc))),
     ])
 }

@@ -1,38 +1,14 @@
 // SPDX-License-Identifier: Apache-2.0
-use cedar_data::{Failure, Text};
-use cedar_names::{AnyId, Id, Loc, Span};
-use cedar_syntax::{
-    ParseError, ParseErrorKind, ParseErrors, Path, Schema, UserError, parse_schema,
-};
+use crate::making::{id, text};
+use cedar_names::Id;
+use cedar_text::{Loc, Span};
+use cedar_tree::{ParseError, ParseErrorKind, Path};
 use std::alloc::Global;
 
 /// Two places of the examples.
 pub const FIRST: Span = Span { start: 1, end: 2 };
 
 pub const SECOND: Span = Span { start: 4, end: 5 };
-
-/// A text.
-pub fn text(alloc: Global, text: &str) -> Option<Text> {
-    Text::new(alloc, text).ok()
-}
-
-/// The identifier of a word.
-pub fn id(alloc: Global, word: &str) -> Option<Id> {
-    Id::new(alloc, word).ok()?
-}
-
-/// The schema of a text that is one.
-pub fn parsed(alloc: Global, text: &str) -> Option<Schema> {
-    parse_schema(alloc, text).ok()
-}
-
-/// The errors of a text that is no schema.
-pub fn errors_of(alloc: Global, text: &str) -> Option<ParseErrors> {
-    match parse_schema(alloc, text).err() {
-        Some(Failure::Refused(errors)) => Some(errors),
-        _ => None,
-    }
-}
 
 /// A token that strays in `{}` at this place.
 fn stray_kind(alloc: Global, span: Span, token: &str) -> Option<ParseErrorKind> {
@@ -54,13 +30,6 @@ pub fn extra(alloc: Global) -> Option<ParseErrorKind> {
         span: SECOND,
         token,
     })
-}
-
-/// The key `a` stands twice in `@a @a`.
-pub fn repeated(alloc: Global) -> Option<ParseErrorKind> {
-    let key = AnyId::new(alloc, "a").ok()??;
-    let rule = UserError::DuplicateAnnotations(key, FIRST, SECOND);
-    Some(ParseErrorKind::User(rule))
 }
 
 /// The place of `A::B`.

@@ -1,16 +1,11 @@
 // SPDX-License-Identifier: Apache-2.0
 use crate::holding::{all_hold, are_equal, is_copied};
-use crate::making::{parsed, path, place, text};
-use cedar_names::{Loc, Node, Span};
-use cedar_syntax::{BUILTIN_TYPES, PR, PrimitiveType, QualName};
+use crate::making::text;
+use crate::tree_making::{path, place};
+use cedar_text::{Loc, Node, Span};
+use cedar_tree::{BUILTIN_TYPES, PR, PrimitiveType, QualName};
 use std::alloc::Global;
 use std::test::Fail;
-
-/// How many namespaces the schema of a text has.
-fn namespaces(alloc: Global, text: &str) -> Option<usize> {
-    let schema = parsed(alloc, text)?;
-    Some(schema.len())
-}
 
 /// Whether a place is `A::B`.
 fn is_a_b(loc: &Loc) -> bool {
@@ -28,9 +23,7 @@ fn is_path_placed(alloc: Global) -> bool {
 #[test]
 fn paths(rt: HostRuntime) -> Result<(), Fail> {
     let alloc = rt.alloc();
-    let count = namespaces(alloc, "namespace A { entity B; } entity C;");
     all_hold(&[
-        ("a schema has its namespaces", count == Some(2)),
         ("a path has its place", is_path_placed(alloc)),
         ("a path is copied", is_copied(alloc, path(alloc))),
     ])
