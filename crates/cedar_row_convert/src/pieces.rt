@@ -1,13 +1,11 @@
 // SPDX-License-Identifier: Apache-2.0
-use crate::declarations::add_definition;
 use crate::telling::add_faults;
-use crate::types::add_type;
-use crate::writing::Writing;
 use cedar_convert_fragment::cedar_type_to_json_type;
 use cedar_convert_namespaces::from_annotated_namespace;
 use cedar_convert_text::ToJsonSchemaErrors;
 use cedar_data::{Dup, Failure, Mem, NoMemory, Out};
 use cedar_fragment::{NamespaceDefinition, RawName, SchemaType};
+use cedar_row_fragments::{Writing, add_definition, add_type};
 use cedar_syntax::parse_schema;
 use cedar_text::Node;
 use cedar_tree::{Annotated, Declaration, Namespace, Schema, Type, TypeDecl};
@@ -44,16 +42,18 @@ fn add_types(writing: &mut Writing, namespace: &Namespace) -> Mem<()> {
 
 fn add_written(writing: &mut Writing, ty: &Node<Type>) -> Mem<()> {
     let made = cedar_type_to_json_type(writing.alloc, ty.dup(writing.alloc)?);
-    add_declared_type(writing, made)
+    let added = add_declared_type(writing, &made);
+    drop(made);
+    added
 }
 
 fn add_declared_type(
     writing: &mut Writing,
-    made: Out<SchemaType<RawName>, ToJsonSchemaErrors>,
+    made: &Out<SchemaType<RawName>, ToJsonSchemaErrors>,
 ) -> Mem<()> {
     match made {
-        Ok(ty) => add_type_line(writing, &ty),
-        Err(Failure::Refused(errors)) => add_faults(writing, &errors),
+        Ok(ty) => add_type_line(writing, ty),
+        Err(Failure::Refused(errors)) => add_faults(writing, errors),
         Err(Failure::NoMemory) => Err(NoMemory),
     }
 }
@@ -66,16 +66,18 @@ fn add_type_line(writing: &mut Writing, ty: &SchemaType<RawName>) -> Mem<()> {
 
 fn add_namespace(writing: &mut Writing, namespace: &Annotated<Namespace>) -> Mem<()> {
     let made = from_annotated_namespace(writing.alloc, namespace.dup(writing.alloc)?);
-    add_declared(writing, made)
+    let added = add_declared(writing, &made);
+    drop(made);
+    added
 }
 
 fn add_declared(
     writing: &mut Writing,
-    made: Out<NamespaceDefinition<RawName>, ToJsonSchemaErrors>,
+    made: &Out<NamespaceDefinition<RawName>, ToJsonSchemaErrors>,
 ) -> Mem<()> {
     match made {
-        Ok(definition) => add_namespace_lines(writing, &definition),
-        Err(Failure::Refused(errors)) => add_faults(writing, &errors),
+        Ok(definition) => add_namespace_lines(writing, definition),
+        Err(Failure::Refused(errors)) => add_faults(writing, errors),
         Err(Failure::NoMemory) => Err(NoMemory),
     }
 }

@@ -1,6 +1,4 @@
 // SPDX-License-Identifier: Apache-2.0
-use crate::declarations::add_definition;
-use crate::writing::Writing;
 use cedar_convert_text::{
     CedarSchemaParseErrors, SchemaWarning, ToJsonSchemaError, ToJsonSchemaErrors,
     parse_cedar_schema_fragment,
@@ -8,46 +6,46 @@ use cedar_convert_text::{
 use cedar_data::{Failure, Mem, NoMemory, Out};
 use cedar_fragment::{Fragment, RawName};
 use cedar_names::Extensions;
+use cedar_row_fragments::{Writing, add_fragment};
 use cedar_text::Span;
 use std::alloc::Global;
 
 /// What a text declares, or why it declares nothing.
-pub(crate) type Made = Out<(Fragment<RawName>, Vec<SchemaWarning>), CedarSchemaParseErrors>;
+type Made = Out<(Fragment<RawName>, Vec<SchemaWarning>), CedarSchemaParseErrors>;
 
 /// The fragment that the input declares, with all places where the word `places` is given; or all
 /// that is wrong with it, each fault with its places and its help.
 pub fn fragment(alloc: Global, words: &[&str], input: &str) -> Mem<String> {
     let places = words.iter().any(|word| *word == "places");
     let extensions = Extensions::all_available(alloc)?;
-    fragment_told(
-        alloc,
-        places,
-        parse_cedar_schema_fragment(alloc, input, &extensions),
-    )
+    let made = parse_cedar_schema_fragment(alloc, input, &extensions);
+    let told = fragment_told(alloc, places, &made);
+    drop(made);
+    told
 }
 
 /// The warnings of the names of the input, each with its places; or all that is wrong with the
 /// input.
 pub fn warnings(alloc: Global, input: &str) -> Mem<String> {
     let extensions = Extensions::all_available(alloc)?;
-    warnings_told(
-        alloc,
-        parse_cedar_schema_fragment(alloc, input, &extensions),
-    )
+    let made = parse_cedar_schema_fragment(alloc, input, &extensions);
+    let told = warnings_told(alloc, &made);
+    drop(made);
+    told
 }
 
-fn fragment_told(alloc: Global, places: bool, made: Made) -> Mem<String> {
+fn fragment_told(alloc: Global, places: bool, made: &Made) -> Mem<String> {
     match made {
-        Ok((fragment, _warnings)) => fragment_lines(alloc, places, &fragment),
-        Err(Failure::Refused(errors)) => error_lines(alloc, &errors),
+        Ok((fragment, _warnings)) => fragment_lines(alloc, places, fragment),
+        Err(Failure::Refused(errors)) => error_lines(alloc, errors),
         Err(Failure::NoMemory) => Err(NoMemory),
     }
 }
 
-fn warnings_told(alloc: Global, made: Made) -> Mem<String> {
+fn warnings_told(alloc: Global, made: &Made) -> Mem<String> {
     match made {
         Ok((_fragment, warnings)) => warning_lines(alloc, warnings.as_slice()),
-        Err(Failure::Refused(errors)) => error_lines(alloc, &errors),
+        Err(Failure::Refused(errors)) => error_lines(alloc, errors),
         Err(Failure::NoMemory) => Err(NoMemory),
     }
 }
@@ -71,20 +69,6 @@ fn error_lines(alloc: Global, errors: &CedarSchemaParseErrors) -> Mem<String> {
     let mut writing = Writing::new(alloc, true);
     add_errors(&mut writing, errors)?;
     Ok(writing.into_text())
-}
-
-fn add_fragment(writing: &mut Writing, fragment: &Fragment<RawName>) -> Mem<()> {
-    for (name, definition) in fragment.0.iter() {
-        match name {
-            None => writing.add("no namespace\n")?,
-            Some(name) => {
-                let line = format!(in writing.alloc; "namespace {name}\n")?;
-                writing.add(line.as_str())?;
-            }
-        }
-        add_definition(writing, definition)?;
-    }
-    writing.add("end of fragment\n")
 }
 
 fn add_errors(writing: &mut Writing, errors: &CedarSchemaParseErrors) -> Mem<()> {

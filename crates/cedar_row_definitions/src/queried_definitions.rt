@@ -52,9 +52,9 @@ fn definitions_of(alloc: Global, input: &str) -> Out<Definitions, CedarSchemaErr
 }
 
 /// The same, refused with an error of a schema or of its text.
-pub(crate) fn as_schema_error<T>(made: Out<T, SchemaError>) -> Out<T, CedarSchemaError> {
+fn as_schema_error(made: Out<Definitions, SchemaError>) -> Out<Definitions, CedarSchemaError> {
     match made {
-        Ok(made) => Ok(made),
+        Ok(definitions) => Ok(definitions),
         Err(Failure::Refused(error)) => Err(Failure::Refused(CedarSchemaError::Schema(error))),
         Err(Failure::NoMemory) => Err(Failure::NoMemory),
     }
@@ -96,13 +96,19 @@ fn definitions_told(alloc: Global, words: &[&str], definitions: &Definitions) ->
     for definition in definitions.definitions() {
         add_definition(&mut lines, definition)?;
     }
-    let mut names = AllDefs::single_fragment(alloc, definitions)?;
-    for word in words {
-        add_declared(&mut lines, &names, word)?;
-    }
-    mark_all(alloc, &mut names, words)?;
-    add_qualified(&mut lines, definitions, &names)?;
+    add_names(&mut lines, words, definitions)?;
     Ok(lines.into_text())
+}
+
+/// What the declared names say of each word, and to which entity types the actions apply once each
+/// word is marked as a common type.
+fn add_names(lines: &mut Lines, words: &[&str], definitions: &Definitions) -> Mem<()> {
+    let mut names = AllDefs::single_fragment(lines.alloc, definitions)?;
+    for word in words {
+        add_declared(lines, &names, word)?;
+    }
+    mark_all(lines.alloc, &mut names, words)?;
+    add_qualified(lines, definitions, &names)
 }
 
 /// Marks each word that is a name as a common type.
@@ -133,26 +139,47 @@ fn add_namespaces(lines: &mut Lines, definitions: &Definitions) -> Mem<()> {
 /// The names that a definition declares, the parents of its entity types, and its common types alone.
 fn add_definition(lines: &mut Lines, definition: &Definition) -> Mem<()> {
     let alloc = lines.alloc;
-    let mut types = Bracketed::new(alloc);
-    for name in definition.all_declared_entity_type_names() {
-        types.add_type(name)?;
-    }
-    let mut actions = Bracketed::new(alloc);
-    for uid in definition.all_declared_action_names() {
-        actions.add_uid(uid)?;
-    }
-    let (types, actions) = (types.told()?, actions.told()?);
+    let types = entity_types_told(alloc, definition)?;
+    let actions = actions_told(alloc, definition)?;
     let common = common_told(alloc, definition)?;
     lines.add_line(format!(in alloc;
         "entity types {types}, actions {actions}, common types {common}"
     )?)?;
+    add_parents(lines, definition)?;
+    add_common_alone(lines, definition)
+}
+
+fn entity_types_told(alloc: Global, definition: &Definition) -> Mem<String> {
+    let mut types = Bracketed::new(alloc);
+    for name in definition.all_declared_entity_type_names() {
+        types.add_type(name)?;
+    }
+    types.told()
+}
+
+fn actions_told(alloc: Global, definition: &Definition) -> Mem<String> {
+    let mut actions = Bracketed::new(alloc);
+    for uid in definition.all_declared_action_names() {
+        actions.add_uid(uid)?;
+    }
+    actions.told()
+}
+
+/// A line of the parents of each entity type.
+fn add_parents(lines: &mut Lines, definition: &Definition) -> Mem<()> {
     for (name, ty) in definition.entity_types.defs.iter() {
-        let parents = parents_told(alloc, ty)?;
-        let line = format!(in alloc; "{name} in {parents}")?;
+        let parents = parents_told(lines.alloc, ty)?;
+        let line = format!(in lines.alloc; "{name} in {parents}")?;
         lines.add_deep(1, line.as_str())?;
     }
-    let alone = common_told(alloc, &common_alone(alloc, definition)?)?;
-    let line = format!(in alloc; "common types alone {alone}")?;
+    Ok(())
+}
+
+/// A line of the common types as a definition of their own.
+fn add_common_alone(lines: &mut Lines, definition: &Definition) -> Mem<()> {
+    let alone = common_alone(lines.alloc, definition)?;
+    let alone = common_told(lines.alloc, &alone)?;
+    let line = format!(in lines.alloc; "common types alone {alone}")?;
     lines.add_deep(1, line.as_str())
 }
 

@@ -1,12 +1,7 @@
 // SPDX-License-Identifier: Apache-2.0
-use crate::differing::written;
-use crate::faults::{BadLine, RowFault};
-use crate::reading::{Reader, Rows};
-use crate::row::{Answer, Row};
 use crate::verbs::answer;
 use anyhow::{Context, Result};
-use cedar_data::Mem;
-use std::alloc::Global;
+use cedar_row_files::{Answer, BadLine, Row, RowFault, Rows, rows_of, written};
 use std::{fs, io};
 
 /// How a row ended.
@@ -43,7 +38,7 @@ pub fn all(rt: &HostRuntime) -> io::Result<Vec<String>> {
 /// Runs the rows of a file, and prints how many there are, and how many of them differ where any does, and how many
 /// lines are bad where any is.
 pub fn run(rt: &HostRuntime, name: &str) -> Result<()> {
-    let rows = rows_of(rt, name)?;
+    let rows = read(rt, name)?;
     print_bad_lines(rt, name, rows.bad_lines.as_slice())?;
     let wrong = run_rows(rt, name, rows.sound.as_slice())?;
     let bad = rows.bad_lines.len().saturating_add(wrong.unknown);
@@ -77,21 +72,9 @@ fn print_count(
 }
 
 /// The rows and the bad lines of a file.
-fn rows_of(rt: &HostRuntime, name: &str) -> Result<Rows> {
+fn read(rt: &HostRuntime, name: &str) -> Result<Rows> {
     let text = fs::read_to_string(rt, name).context(format_args!("{name}"))?;
-    Ok(read(rt.alloc(), text.as_str())?)
-}
-
-/// The rows and the bad lines of a text.
-fn read(alloc: Global, text: &str) -> Mem<Rows> {
-    let mut reader = Reader::new(alloc);
-    let mut number = 0usize;
-    for line in text.lines() {
-        number = number.saturating_add(1);
-        reader.read(alloc, number, line)?;
-    }
-    reader.end_head()?;
-    Ok(reader.into_rows())
+    Ok(rows_of(rt.alloc(), text.as_str())?)
 }
 
 /// Runs rows, and tells how many of them are wrong.

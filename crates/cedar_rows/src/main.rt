@@ -3,17 +3,7 @@
 //! stands beside it, and then how many rows each file has.
 #![tactic(auto)]
 
-mod block;
-mod differing;
-mod faults;
 mod files;
-mod lines;
-mod numbers;
-mod reading;
-mod row;
-mod running;
-mod streams;
-mod sweeping;
 mod verbs;
 
 use anyhow::Result;

@@ -1,16 +1,14 @@
 // SPDX-License-Identifier: Apache-2.0
-use crate::row::{Answer, Row};
-use crate::{running, sweeping};
 use cedar_data::Mem;
+use cedar_row_files::{Answer, Row};
 use std::alloc::Global;
 use std::str;
 
 /// What a row answers; none where its verb is unknown.
 pub fn answer(alloc: Global, row: &Row) -> Mem<Option<Answer>> {
-    match row.verb.as_str() {
-        "run" => Ok(Some(running::answer(alloc, row)?)),
-        "sweep" => Ok(Some(sweeping::answer(alloc, row)?)),
-        _ => answer_in_text(alloc, row),
+    match cedar_row_runs::answer(alloc, row)? {
+        None => answer_in_text(alloc, row),
+        answer => Ok(answer),
     }
 }
 
@@ -38,7 +36,9 @@ type Lines = Mem<Option<String>>;
 fn lines_of(alloc: Global, verb: &str, words: &[&str], input: &str) -> Lines {
     let lines = cedar_row_trees::answer(alloc, verb, words, input);
     let lines = either(lines, cedar_row_calls::answer(alloc, verb, words, input));
+    let lines = either(lines, cedar_row_conform::answer(alloc, verb, words, input));
     let lines = either(lines, cedar_row_convert::answer(alloc, verb, words, input));
+    let lines = either(lines, cedar_row_fragment_calls::answer(alloc, verb, input));
     let lines = either(lines, cedar_row_json::answer(alloc, verb, words, input));
     let lines = either(lines, cedar_row_print::answer(alloc, verb, words, input));
     let lines = either(lines, cedar_row_schemas::answer(alloc, verb, words, input));
@@ -46,6 +46,10 @@ fn lines_of(alloc: Global, verb: &str, words: &[&str], input: &str) -> Lines {
     let lines = either(
         lines,
         cedar_row_definitions::answer(alloc, verb, words, input),
+    );
+    let lines = either(
+        lines,
+        cedar_row_schema_calls::answer(alloc, verb, words, input),
     );
     either(lines, cedar_row_verbs::answer(alloc, verb, words, input))
 }

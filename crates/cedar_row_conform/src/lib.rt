@@ -1,0 +1,26 @@
+// SPDX-License-Identifier: Apache-2.0
+//! Verbs of rows on entities and values in JSON against a schema. Nothing is promised of the answers but that they come;
+//! the rows say what they have to be.
+#![tactic(auto)]
+
+mod conforming;
+mod fitting;
+mod values;
+
+use cedar_data::Mem;
+pub use conforming::{conform, entities};
+pub use fitting::fits;
+use std::alloc::Global;
+pub use values::reference;
+
+/// What the verb of this name answers to the words behind it and to an input; none where there is no such verb.
+pub fn answer(alloc: Global, verb: &str, words: &[&str], input: &str) -> Mem<Option<String>> {
+    let lines = match verb {
+        "conform" => conform(alloc, input)?,
+        "entities" => entities(alloc, input)?,
+        "fits" => fits(alloc, words, input)?,
+        "reference" => reference(alloc, input)?,
+        _ => return Ok(None),
+    };
+    Ok(Some(lines))
+}

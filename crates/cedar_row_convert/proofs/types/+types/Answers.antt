@@ -1,6 +1,0 @@
--- SPDX-License-Identifier: Apache-2.0
-use Rattle.cedar_row_convert.proofs.Remaining.{Remains-next}
-use Rattle.cedar_row_convert.proofs.types.+types.Goals as goal
-
-pub add_attributes-loop-name-preserved : goal.add_attributes-loop-name-preserved
-add_attributes-loop-name-preserved t c = Remains-next c.loop-name.invariant c.in-Some.ensures.steps
