@@ -201,18 +201,18 @@ module _ (S : Schema) where
       (pass-allows (codes "tags") (in_object no_members_check) (get (codes "tags") d) (if-there-map (get (codes "tags") d) pass-empty-object has.2)))
 
   data-pass : (name : FullName) (kind : EntityKind) (d : Data) → data_check S name kind d ≡ Ok tt → HasData S name kind d
-  data-pass name (StandardKind attributes is_open tags) d is =
-      let attrs = both-pass (needs (codes "attrs") (value_check S (Record attributes is_open)) d) _ tt is in
+  data-pass name (StandardKind fields is_open tags) d is =
+      let attrs = both-pass (needs (codes "attrs") (value_check S (Record fields is_open)) d) _ tt is in
       let parents = both-pass (needs (codes "parents") (in_array (each_item (parent_check S name) 0)) d) _ tt attrs.2 in (
-        at-map (codes "attrs") d (value-pass S (Record attributes is_open)) (needs-pass (codes "attrs") (value_check S (Record attributes is_open)) d tt attrs.1),
+        at-map (codes "attrs") d (value-pass S (Record fields is_open)) (needs-pass (codes "attrs") (value_check S (Record fields is_open)) d tt attrs.1),
         at-map (codes "parents") d (parents-pass name) (needs-pass (codes "parents") (in_array (each_item (parent_check S name) 0)) d tt parents.1),
         if-there-map (get (codes "tags") d) (tags-pass tags) (allows-pass (codes "tags") (tags_check S tags) (get (codes "tags") d) parents.2),
       )
   data-pass name (EnumeratedKind ids) d is = nothing-pass d is
 
   pass-data : (name : FullName) (kind : EntityKind) (d : Data) → HasData S name kind d → data_check S name kind d ≡ Ok tt
-  pass-data name (StandardKind attributes is_open tags) d has =
-      then-pass (needs (codes "attrs") (value_check S (Record attributes is_open)) d) _ tt tt (pass-needs (codes "attrs") (value_check S (Record attributes is_open)) d tt (at-map (codes "attrs") d (pass-value S (Record attributes is_open)) has.0))
+  pass-data name (StandardKind fields is_open tags) d has =
+      then-pass (needs (codes "attrs") (value_check S (Record fields is_open)) d) _ tt tt (pass-needs (codes "attrs") (value_check S (Record fields is_open)) d tt (at-map (codes "attrs") d (pass-value S (Record fields is_open)) has.0))
       (then-pass (needs (codes "parents") (in_array (each_item (parent_check S name) 0)) d) _ tt tt (pass-needs (codes "parents") (in_array (each_item (parent_check S name) 0)) d tt (at-map (codes "parents") d (pass-parents name) has.1))
       (pass-allows (codes "tags") (tags_check S tags) (get (codes "tags") d) (if-there-map (get (codes "tags") d) (pass-tags tags) has.2)))
   pass-data name (EnumeratedKind ids) d has = pass-nothing d has

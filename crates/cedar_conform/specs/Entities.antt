@@ -49,8 +49,8 @@ module _ (S : Schema) where
 
   -- the value has what an entity of the type of this name and kind has; where the type lists its entities, they have nothing
   abbrev pub HasData : FullName → EntityKind → Data → Type 0
-  HasData name (StandardKind attributes is_open tags) d =
-      At (codes "attrs") (Fits S (Record attributes is_open)) d × At (codes "parents") (IsListOf (IsParentOf name)) d × MayHave (codes "tags") (AreTags tags) d
+  HasData name (StandardKind fields is_open tags) d =
+      At (codes "attrs") (Fits S (Record fields is_open)) d × At (codes "parents") (IsListOf (IsParentOf name)) d × MayHave (codes "tags") (AreTags tags) d
   HasData name (EnumeratedKind ids) d =
       At (codes "attrs") IsEmptyObject d × At (codes "parents") IsEmptyArray d × MayHave (codes "tags") IsEmptyObject d
 

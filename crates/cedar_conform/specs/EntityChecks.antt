@@ -62,8 +62,8 @@ module _ (S : Schema) where
 
   -- what an entity of this type and this kind has
   abbrev pub data_check : FullName → EntityKind → Data → Check (Unit {0})
-  data_check name (StandardKind attributes is_open tags) d =
-      and_then (needs (codes "attrs") (value_check S (Record attributes is_open)) d)
+  data_check name (StandardKind fields is_open tags) d =
+      and_then (needs (codes "attrs") (value_check S (Record fields is_open)) d)
       (λ _. and_then (needs (codes "parents") (in_array (each_item (parent_check name) 0)) d)
       (λ _. allows (codes "tags") (tags_check tags) d))
   data_check name (EnumeratedKind ids) d = nothing_check d

@@ -48,7 +48,7 @@ declared_type S name = lookup (is_at (words_cmp name)) S.entity_types
 
 -- whether an entity type of this kind may have an entity of the id
 abbrev pub may_have : EntityKind → List ℕ → Bool
-may_have (StandardKind attributes is_open tags) id = true
+may_have (StandardKind fields is_open tags) id = true
 may_have (EnumeratedKind ids) id = has_word ids id
 
 -- this is the entity's type in the schema, and where it lists its entities, it lists this one
