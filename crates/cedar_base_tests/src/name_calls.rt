@@ -1,7 +1,7 @@
 // SPDX-License-Identifier: Apache-2.0
 use crate::holding::{all_hold, are_equal, is_copied, is_written};
 use crate::making::{placed_name, text, uid};
-use cedar_data::{Failure, Out, Text};
+use cedar_data::{Failure, Out};
 use cedar_names::{Annotation, Annotations, AnyId, Id, InternalName, Name, UnreservedId};
 use cedar_text::NameFault;
 use std::alloc::Global;
@@ -14,14 +14,7 @@ fn known(alloc: Global) -> Option<UnreservedId> {
 
 /// The name of the words `A` and `B`.
 fn of_words(alloc: Global) -> Option<Name> {
-    let first = text(alloc, "A")?;
-    let second = text(alloc, "B")?;
-    of_two(alloc, first, second)
-}
-
-/// The name of these two words.
-fn of_two(alloc: Global, first: Text, second: Text) -> Option<Name> {
-    let words = vec![in alloc; first, second].ok()?;
+    let words = vec![in alloc; text(alloc, "A")?, text(alloc, "B")?].ok()?;
     Name::of_words(alloc, words).ok()
 }
 
