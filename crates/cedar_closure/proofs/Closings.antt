@@ -18,9 +18,9 @@ use Rattle.std.specs.List.Sorted.{IsStrictlySortedBy}
 use Rattle.std.specs.Map.{keys_of}
 use Rattle.std.specs.Option.{IsSomeAnd}
 use Rattle.std.specs.Ordering.{ordering_reverse, is_eq}
-use Rattle.cedar_data.proofs.Rebuild.{sorted_next}
-use Rattle.cedar_data.specs.Maps.{get, IsSortedMap}
-use Rattle.cedar_data.specs.Sets.{contains}
+use Rattle.cedar_names.proofs.of_data.Rebuild.{sorted_next}
+use Rattle.cedar_names.specs.of_data.Maps.{get, IsSortedMap}
+use Rattle.cedar_names.specs.of_data.Sets.{contains}
 use Rattle.cedar_closure.specs.Chains.{Reaches, one, more}
 use Rattle.cedar_closure.specs.Closure.{edges_of, HasEdge, IsAcyclic, IsLeastOnCycle, Closes, IsClosure}
 use Rattle.cedar_closure.specs.Marks.{Leads}

@@ -14,8 +14,8 @@ use Rattle.std.specs.Cmp.{IsTotalOrder}
 use Rattle.std.specs.List.{list_any, filter_map, position, position_or_len, cons_option}
 use Rattle.std.specs.Map.{keys_of, lookup}
 use Rattle.std.specs.Option.{IsSomeAnd}
-use Rattle.cedar_data.specs.Maps.{get}
-use Rattle.cedar_data.specs.Sets.{contains}
+use Rattle.cedar_names.specs.of_data.Maps.{get}
+use Rattle.cedar_names.specs.of_data.Sets.{contains}
 use Rattle.cedar_closure.specs.Chains.{Reaches, one, more}
 use Rattle.cedar_closure.specs.Closure.{edges_of, edges_at, HasEdge}
 use Rattle.cedar_closure.specs.Marks.{Leads, LeadWithin}

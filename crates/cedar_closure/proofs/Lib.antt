@@ -1,4 +1,5 @@
 -- SPDX-License-Identifier: Apache-2.0
+pub mod of_data
 pub mod ChainLaws
 pub mod Visits
 pub mod Closings

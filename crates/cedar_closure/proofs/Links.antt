@@ -12,7 +12,7 @@ use Rattle.std.specs.Cmp.{IsTotalOrder}
 use Rattle.std.specs.List.{list_any}
 use Rattle.std.specs.List.Sorted.{IsStrictlySortedBy}
 use Rattle.std.specs.Option.{IsSomeAnd}
-use Rattle.cedar_data.specs.Sets.{contains, Adds}
+use Rattle.cedar_names.specs.of_data.Sets.{contains, Adds}
 use Rattle.cedar_closure.specs.Chains.{Reaches}
 use Rattle.cedar_closure.specs.Marks.{Leads}
 use Rattle.cedar_closure.specs.Places.{place}

@@ -12,8 +12,8 @@ use Rattle.std.specs.List.{filter_map, list_any}
 use Rattle.std.specs.Map.{keys_of}
 use Rattle.std.specs.Option.{is_some}
 use Rattle.std.specs.List.Sorted.{IsStrictlySortedBy}
-use Rattle.cedar_data.specs.Maps.{get}
-use Rattle.cedar_data.specs.Sets.{contains, Adds}
+use Rattle.cedar_names.specs.of_data.Maps.{get}
+use Rattle.cedar_names.specs.of_data.Sets.{contains, Adds}
 use Rattle.cedar_closure.specs.Places.{AddsBeside, NamesBeside, AreKeysOf, named}
 
 or_same : (a o : Bool) → (a || o) ≡ (a || (o || false))

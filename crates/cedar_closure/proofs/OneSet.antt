@@ -12,7 +12,7 @@ use Rattle.std.specs.Cmp.{IsTotalOrder}
 use Rattle.std.specs.List.{AllZip}
 use Rattle.std.specs.List.Sorted.{IsStrictlySortedBy}
 use Rattle.std.specs.Ordering.{is_eq, ordering_reverse}
-use Rattle.cedar_data.specs.Sets.{contains, IsSetOf}
+use Rattle.cedar_names.specs.of_data.Sets.{contains, IsSetOf}
 use Rattle.cedar_closure.proofs.PlaceLemmas.{equal_from_is_eq}
 
 not_both : (o : Ordering) → o ≡ Less → is_eq o ≡ true → ⊥

@@ -8,7 +8,7 @@ use Rattle.std.specs.List.Sorted.{IsStrictlySortedBy}
 use Rattle.std.specs.Map.{keys_of}
 use Rattle.std.specs.Ordering.{match_ordering}
 use Rattle.std.specs.declared.cmp.Ordering.{Ordering}
-use Rattle.cedar_data.specs.Maps.{IsSortedMap}
+use Rattle.cedar_names.specs.of_data.Maps.{IsSortedMap}
 
 -- of keys that ascend, the last ones do
 sorted_back : {K : Type 0} (cmp : K → K → Ordering) (front back : List K) → IsStrictlySortedBy cmp (front ++ back) → IsStrictlySortedBy cmp back

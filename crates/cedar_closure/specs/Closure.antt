@@ -5,8 +5,8 @@ use Rattle.std.specs.declared.cmp.Ordering.{Ordering}
 use Rattle.std.specs.declared.cmp.Ordering.TheVariants.{Less}
 use Rattle.std.specs.List.{AllZip}
 use Rattle.std.specs.Map.{keys_of}
-use Rattle.cedar_data.specs.Maps.{get}
-use Rattle.cedar_data.specs.Sets.{contains, IsSetOf}
+use Rattle.cedar_names.specs.of_data.Maps.{get}
+use Rattle.cedar_names.specs.of_data.Sets.{contains, IsSetOf}
 use Rattle.cedar_closure.specs.Chains.{Reaches}
 
 module _ {K V : Type 0} (cmp : K → K → Ordering) (edges : V → List K) where

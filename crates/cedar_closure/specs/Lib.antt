@@ -1,4 +1,7 @@
 -- SPDX-License-Identifier: Apache-2.0
+pub mod of_text
+pub mod of_names
+pub mod of_data
 pub mod Chains
 pub mod Marks
 pub mod Closure

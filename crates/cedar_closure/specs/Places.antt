@@ -6,7 +6,7 @@ use Rattle.std.specs.List.{position, filter_map, flat_map}
 use Rattle.std.specs.List.Sorted.{IsStrictlySortedBy}
 use Rattle.std.specs.BTreeMap.{is_at}
 use Rattle.std.specs.Map.{keys_of}
-use Rattle.cedar_data.specs.Sets.{contains}
+use Rattle.cedar_names.specs.of_data.Sets.{contains}
 use Rattle.cedar_closure.specs.Chains.{Reaches}
 use Rattle.cedar_closure.specs.Closure.{edges_at}
 use Rattle.cedar_closure.specs.Marks.{Leads}

@@ -5,7 +5,7 @@ use Rattle.std.specs.Fmt.{◌++?◌}
 use Rattle.cedar_names.specs.Names.{internal_of, name_of}
 use Rattle.cedar_names.specs.Components.{loc_of}
 use Rattle.cedar_names.specs.declared.name.EntityType.{EntityType}
-use Rattle.cedar_text.specs.declared.location.Loc.{Loc}
+use Rattle.cedar_names.specs.of_text.declared.location.Loc.{Loc}
 use Rattle.cedar_closure.specs.declared.tc_error.TcError.{TcError}
 use Rattle.cedar_closure.specs.declared.tc_error.TcError.TheVariants.{HasCycle, MissingTcEdge}
 

@@ -2,9 +2,9 @@
 ghost use Rattle.std.specs.Prelude.{◌≡◌, ◌<◌, ◌≤◌, ◌+◌, ◌↔◌, ◌⊎◌, [], ◌∷◌, ◌++◌, false, length, replicate, IsTrue, IfOk, OnOk, All, Contains, IsSomeAnd};
 ghost use Rattle.std.specs.List.Sorted.{IsStrictlySortedBy};
 ghost use Rattle.std.specs.Map.{keys_of};
-ghost use Rattle.cedar_data.specs.Maps.{IsSortedMap};
-ghost use Rattle.cedar_data.specs.Sets.{contains};
-ghost use Rattle.cedar_text.specs.Failures.{IfRefused};
+ghost use Rattle.cedar_names.specs.of_data.Maps.{IsSortedMap};
+ghost use Rattle.cedar_names.specs.of_data.Sets.{contains};
+ghost use Rattle.cedar_names.specs.of_text.Failures.{IfRefused};
 ghost use Rattle.cedar_closure.specs.Closure.{IsClosure, IsAcyclic, IsLeastOnCycle};
 ghost use Rattle.cedar_closure.specs.Marks.{LeadWithin};
 ghost use Rattle.cedar_closure.specs.Places.{AreKeysOf, Chained, place, rows_at};
@@ -14,7 +14,7 @@ use crate::key_graph::{keys_of_nodes, place, rows_of_nodes};
 use crate::reachable::reached_from;
 use crate::tc_error::TcError;
 use crate::tc_node::{TcKey, TcNode};
-use cedar_data::{Failure, Items, Map, Mem, Out};
+use cedar_names::{Failure, Items, Map, Mem, Out};
 use std::alloc::Global;
 use std::collections::BTreeMap;
 

@@ -3,12 +3,12 @@ ghost use Rattle.std.specs.Prelude.{◌≡◌, ◌∷◌, ◌++◌, [], All, IfO
 ghost use Rattle.std.specs.List.{filter_map};
 ghost use Rattle.std.specs.List.Sorted.{IsStrictlySortedBy};
 ghost use Rattle.std.specs.Map.{keys_of};
-ghost use Rattle.cedar_data.specs.Maps.{IsSortedMap};
-ghost use Rattle.cedar_data.specs.Sets.{Adds};
+ghost use Rattle.cedar_names.specs.of_data.Maps.{IsSortedMap};
+ghost use Rattle.cedar_names.specs.of_data.Sets.{Adds};
 ghost use Rattle.cedar_closure.specs.Places.{PutsInOrder, AddsBeside, NamesBeside, AreKeysOf, place, row_at, rows_at};
 
 use crate::tc_node::{TcKey, TcNode};
-use cedar_data::{Items, Map, Mem, Set};
+use cedar_names::{Items, Map, Mem, Set};
 use std::alloc::Global;
 use std::collections::BTreeSet;
 

@@ -3,7 +3,7 @@ ghost use Rattle.std.specs.Prelude.{◌≡◌, ℕ, ◌+◌, ◌<◌, ◌≤◌,
 ghost use Rattle.cedar_closure.specs.Chains.{Reaches};
 ghost use Rattle.cedar_closure.specs.Marks.{Leads, LeadWithin, Told, Visited};
 
-use cedar_data::{Items, Mem};
+use cedar_names::{Items, Mem};
 use std::alloc::Global;
 
 /// The positions to which a chain of one or more rows leads from `start`, each once. The mark of this search is

@@ -1,7 +1,6 @@
 // SPDX-License-Identifier: Apache-2.0
 use crate::tc_node::TcKey;
-use cedar_data::{Dup, Mem};
-use cedar_text::Span;
+use cedar_names::{Dup, Mem, Span};
 use std::alloc::Global;
 use std::error::Error;
 use std::fmt;

@@ -3,15 +3,13 @@ ghost use Rattle.std.specs.Prelude.{◌≡◌, List, Option, None, OnOk, OnErr};
 ghost use Rattle.std.specs.Option.{option_map};
 ghost use Rattle.std.specs.BTreeSet.{insert_key};
 ghost use Rattle.std.specs.List.Sorted.{IsStrictlySortedBy};
-ghost use Rattle.cedar_data.specs.Sets.{contains, Adds};
+ghost use Rattle.cedar_names.specs.of_data.Sets.{contains, Adds};
 ghost use Rattle.cedar_names.specs.EntityUids.{place_of};
-ghost use Rattle.cedar_text.specs.Places.{span_of};
-ghost use Rattle.cedar_text.specs.declared.location.Span.{Span};
+ghost use Rattle.cedar_names.specs.of_text.Places.{span_of};
+ghost use Rattle.cedar_names.specs.of_text.declared.location.Span.{Span};
 ghost use Rattle.cedar_closure.specs.TcErrors.{type_place};
 
-use cedar_data::{Dup, Mem, SetIter};
-use cedar_names::{EntityType, EntityUID};
-use cedar_text::{Loc, Span};
+use cedar_names::{Dup, EntityType, EntityUID, Loc, Mem, SetIter, Span};
 
 /// What names a node of a graph. Keys are compared by their order.
 pub trait TcKey: Ord + Dup + Drop {

@@ -12,12 +12,11 @@ ghost use Rattle.cedar_convert_fragment.specs.Declares.{Declares, fragment_of};
 ghost use Rattle.cedar_convert_fragment.specs.Fragments.{Fragment as Declared};
 ghost use Rattle.cedar_convert_fragment.specs.Views.{fragment_seen};
 
-use cedar_convert_errors::ToJsonSchemaErrors;
-use cedar_convert_faults::{Gathered, gather, schema_faults};
-use cedar_convert_namespaces::{fragment_declared, refuse};
-use cedar_convert_warnings::{SchemaWarning, schema_warnings};
+use cedar_convert_namespaces::{Fragment, RawName, fragment_declared, refuse};
+use cedar_convert_warnings::{
+    Gathered, SchemaWarning, ToJsonSchemaErrors, gather, schema_faults, schema_warnings,
+};
 use cedar_data::{Items, Mem, Out};
-use cedar_fragment::{Fragment, RawName};
 use cedar_names::Extensions;
 use cedar_tree::Schema;
 use std::alloc::Global;

@@ -5,14 +5,14 @@
 
 mod converting;
 
-pub use cedar_convert_errors::{
+pub use cedar_convert_namespaces::{
+    Fragment, RawName, cedar_type_to_json_type, from_annotated_namespace, primitive_to_variant,
+    raw_name_from_path,
+};
+pub use cedar_convert_warnings::{
     DuplicateAttribute, DuplicateContext, DuplicateDeclarations, DuplicateNamespace,
     DuplicatePrincipalOrResource, NO_PR_HELP_MSG, NoPrincipalOrResource, ReservedName,
-    ReservedSchemaKeyword, ToJsonSchemaError, ToJsonSchemaErrors, UnknownTypeName,
+    ReservedSchemaKeyword, SchemaWarning, ShadowsBuiltinWarning, ShadowsEntityWarning,
+    ToJsonSchemaError, ToJsonSchemaErrors, UnknownTypeName,
 };
-pub use cedar_convert_fragment::{
-    cedar_type_to_json_type, primitive_to_variant, raw_name_from_path,
-};
-pub use cedar_convert_namespaces::from_annotated_namespace;
-pub use cedar_convert_warnings::{SchemaWarning, ShadowsBuiltinWarning, ShadowsEntityWarning};
 pub use converting::cedar_schema_to_json_schema;

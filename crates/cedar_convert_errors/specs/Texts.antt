@@ -1,10 +1,10 @@
 -- SPDX-License-Identifier: Apache-2.0
 -- What is said of a tree that declares no fragment: texts, help and places.
 use Rattle.std.specs.Prelude.{ℕ, List, [], ◌∷◌, ◌++◌, Option, Some, None, codes, map, flat_map, option_to_list}
-use Rattle.cedar_text.specs.Lists.{elements}
-use Rattle.cedar_text.specs.Places.{span_of}
-use Rattle.cedar_text.specs.declared.location.Loc.{Loc}
-use Rattle.cedar_text.specs.declared.location.Span.{Span}
+use Rattle.cedar_tree.specs.of_text.Lists.{elements}
+use Rattle.cedar_tree.specs.of_text.Places.{span_of}
+use Rattle.cedar_tree.specs.of_text.declared.location.Loc.{Loc}
+use Rattle.cedar_tree.specs.of_text.declared.location.Span.{Span}
 use Rattle.cedar_tree.specs.Declarations.{scope_text}
 use Rattle.cedar_tree.specs.declared.declaration.PR.{PR}
 use Rattle.cedar_convert_errors.specs.declared.faults.ToJsonSchemaError.{ToJsonSchemaError}

@@ -2,12 +2,12 @@
 ghost use Rattle.std.specs.Prelude.{◌≡◌, IfOk, Some};
 ghost use Rattle.std.specs.Option.{option_map};
 ghost use Rattle.std.specs.String.{string_bytes};
-ghost use Rattle.cedar_text.specs.Lists.{elements, elements_left};
+ghost use Rattle.cedar_tree.specs.of_text.Lists.{elements, elements_left};
 ghost use Rattle.cedar_convert_errors.specs.Texts.{all_spans, fault_help, fault_list, fault_text, first_fault};
 
 use crate::faults::ToJsonSchemaError;
 use cedar_data::{Dup, Mem};
-use cedar_text::{NonEmpty, NonEmptyIter, Span};
+use cedar_tree::{NonEmpty, NonEmptyIter, Span};
 use std::alloc::Global;
 use std::error::Error;
 use std::fmt;

@@ -6,8 +6,7 @@ ghost use Rattle.cedar_convert_errors.specs.Texts.{fault_help, fault_spans};
 
 use crate::texts::{NO_PR_HELP_MSG, list_help};
 use cedar_data::{Mem, Text};
-use cedar_text::{Loc, Span};
-use cedar_tree::PR;
+use cedar_tree::{Loc, PR, Span};
 use std::alloc::Global;
 
 /// A name that two declarations of one kind have, in one namespace.

@@ -10,8 +10,7 @@ use crate::faults::{
     ToJsonSchemaError, UnknownTypeName,
 };
 use cedar_data::Mem;
-use cedar_text::Loc;
-use cedar_tree::PR;
+use cedar_tree::{Loc, PR};
 use std::alloc::Global;
 use std::error::Error;
 use std::fmt;

@@ -1,4 +1,5 @@
 -- SPDX-License-Identifier: Apache-2.0
+pub mod of_convert_errors
 pub use Rattle.cedar_data.specs.formers
 pub mod Bindings
 pub mod Conditions

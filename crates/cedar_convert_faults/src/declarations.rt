@@ -14,9 +14,8 @@ use crate::entities::{add_entity_faults, find_repeat, reserved_name};
 use crate::gathering::Gathered;
 use cedar_convert_errors::{ReservedSchemaKeyword, ToJsonSchemaError};
 use cedar_data::{Dup, Items, Mem};
-use cedar_names::{Id, UnreservedId};
 use cedar_text::{Node, push_all};
-use cedar_tree::{ActionDecl, Annotated, Declaration, TypeDecl};
+use cedar_tree::{ActionDecl, Annotated, Declaration, Id, TypeDecl, UnreservedId};
 use cedar_written::CommonTypeId;
 use std::alloc::Global;
 

@@ -12,9 +12,8 @@ use crate::attributes::{leftmost_repeat, repeat_among};
 use crate::repeats::Repeat;
 use cedar_convert_errors::{DuplicateAttribute, ReservedName, ToJsonSchemaError};
 use cedar_data::{Dup, Mem};
-use cedar_names::Id;
 use cedar_text::{Node, is_cedar};
-use cedar_tree::{ContextDecl, EntityDecl, Type};
+use cedar_tree::{ContextDecl, EntityDecl, Id, Type};
 use std::alloc::Global;
 
 /// The fault of a repeat, if there is one.

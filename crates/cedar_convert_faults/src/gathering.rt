@@ -4,9 +4,8 @@ ghost use Rattle.cedar_tree.specs.Meanings.{schema_tree, annotated_tree, node_of
 ghost use Rattle.cedar_convert_faults.specs.Gathering.{namespaces_of, named_namespaces, loose_declarations, gathered_tree, unnamed};
 
 use cedar_data::{Items, Mem};
-use cedar_names::Annotations;
 use cedar_text::Node;
-use cedar_tree::{Annotated, Declaration, Namespace, Path, Schema};
+use cedar_tree::{Annotated, Annotations, Declaration, Namespace, Path, Schema};
 use std::alloc::Global;
 
 /// The declarations of a namespace, with its name and annotations; those of the unnamed one have neither.

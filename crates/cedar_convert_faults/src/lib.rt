@@ -12,6 +12,12 @@ mod repeats;
 
 pub use attributes::leftmost_repeat;
 pub use bindings::{Kind, names_in};
+pub use cedar_convert_errors::{
+    DuplicateAttribute, DuplicateContext, DuplicateDeclarations, DuplicateNamespace,
+    DuplicatePrincipalOrResource, NO_PR_HELP_MSG, NoPrincipalOrResource, ReservedName,
+    ReservedSchemaKeyword, ToJsonSchemaError, ToJsonSchemaErrors, UnknownTypeName,
+};
+pub use cedar_tree::{Annotated, Declaration, Path};
 pub use declarations::{faults_among, schema_faults};
 pub use entities::type_fault;
 pub use gathering::{Gathered, gather};

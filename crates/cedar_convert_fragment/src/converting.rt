@@ -9,8 +9,7 @@ ghost use Rattle.cedar_convert_fragment.specs.Declares.{type_at};
 ghost use Rattle.cedar_convert_fragment.specs.Views.{type_seen};
 
 use crate::types::type_declared;
-use cedar_convert_errors::ToJsonSchemaErrors;
-use cedar_convert_faults::type_fault;
+use cedar_convert_faults::{ToJsonSchemaErrors, type_fault};
 use cedar_data::{Failure, Out};
 use cedar_fragment::{RawName, SchemaType};
 use cedar_text::{Node, NonEmpty};

@@ -9,10 +9,10 @@ ghost use Rattle.cedar_convert_fragment.specs.Declares.{definition_of};
 ghost use Rattle.cedar_convert_fragment.specs.Views.{definition_seen};
 
 use crate::namespaces::definition_declared;
-use cedar_convert_errors::{ToJsonSchemaError, ToJsonSchemaErrors};
-use cedar_convert_faults::faults_among;
+use cedar_convert_declarations::{
+    NamespaceDefinition, RawName, ToJsonSchemaError, ToJsonSchemaErrors, faults_among,
+};
 use cedar_data::{Failure, Out};
-use cedar_fragment::{NamespaceDefinition, RawName};
 use cedar_text::NonEmpty;
 use cedar_tree::{Annotated, Namespace};
 use std::alloc::Global;

@@ -8,12 +8,11 @@ ghost use Rattle.cedar_convert_fragment.specs.Declares as declares;
 ghost use Rattle.cedar_convert_fragment.specs.Declares.{declared_by, declared_in, definition_of, fragment_of, given, is_reserved_name};
 ghost use Rattle.cedar_convert_fragment.specs.Views.{actions_seen, commons_seen, definition_seen, entities_seen, fragment_seen, namespace_words, namespaces_seen};
 
-use cedar_convert_declarations::{add_actions, add_common, add_entities};
-use cedar_convert_faults::{Gathered, Kind};
-use cedar_data::{Items, Map, Mem, Text};
-use cedar_fragment::{
-    ActionType, CommonType, CommonTypeId, EntityType, Fragment, NamespaceDefinition, RawName,
+use cedar_convert_declarations::{
+    ActionType, CommonType, CommonTypeId, EntityType, Fragment, Gathered, Kind,
+    NamespaceDefinition, RawName, add_actions, add_common, add_entities,
 };
+use cedar_data::{Items, Map, Mem, Text};
 use cedar_names::{Annotations, InternalName, Name, ReservedNameError, UnreservedId};
 use cedar_text::Node;
 use cedar_tree::{Annotated, Declaration, Path};

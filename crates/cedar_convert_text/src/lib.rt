@@ -7,6 +7,6 @@ mod parsing;
 
 pub use cedar_convert::{
     SchemaWarning, ShadowsBuiltinWarning, ShadowsEntityWarning, ToJsonSchemaError,
-    ToJsonSchemaErrors,
+    ToJsonSchemaErrors, from_annotated_namespace,
 };
 pub use parsing::{CedarSchemaParseErrors, parse_cedar_schema_fragment};

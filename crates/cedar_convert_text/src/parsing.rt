@@ -15,9 +15,10 @@ ghost use Rattle.cedar_convert_text.specs.Texts.{AreFaults, DeclaresText, TellsT
 ghost use Rattle.cedar_convert_fragment.specs.Views.{fragment_seen};
 ghost use Rattle.cedar_convert_text.specs.declared.parsing.CedarSchemaParseErrors.TheVariants as error_of;
 
-use cedar_convert::{SchemaWarning, ToJsonSchemaErrors, cedar_schema_to_json_schema};
+use cedar_convert::{
+    Fragment, RawName, SchemaWarning, ToJsonSchemaErrors, cedar_schema_to_json_schema,
+};
 use cedar_data::{Dup, Failure, Mem, Out};
-use cedar_fragment::{Fragment, RawName};
 use cedar_names::Extensions;
 use cedar_syntax::{Schema, parse_schema};
 use cedar_text::Span;

@@ -1,4 +1,6 @@
 -- SPDX-License-Identifier: Apache-2.0
+pub mod of_convert_faults
+pub mod of_convert_errors
 pub use Rattle.cedar_data.specs.formers
 pub mod Shadowing
 pub mod Texts

@@ -10,11 +10,10 @@ ghost use Rattle.cedar_convert_warnings.specs.Shadowing.{builtin_shadowed, by_wo
 
 use crate::merging::are_apart;
 use crate::warnings::{SchemaWarning, ShadowsBuiltinWarning, ShadowsEntityWarning};
-use cedar_convert_faults::{Gathered, Kind, names_in};
+use cedar_convert_faults::{Annotated, Declaration, Gathered, Kind, Path, names_in};
 use cedar_data::{Dup, Items, Map, Mem, Text};
 use cedar_names::{Extensions, InternalName};
 use cedar_text::{Loc, Node, is_primitive_word, push_all};
-use cedar_tree::{Annotated, Declaration, Path};
 use std::alloc::Global;
 
 /// The names with their places, in the order of the names. Of several of one name the last counts.

@@ -1,4 +1,6 @@
 -- SPDX-License-Identifier: Apache-2.0
+pub mod of_schema_error
+pub mod of_definitions
 pub mod Alone
 pub mod Basenames
 pub mod Gathering

@@ -13,7 +13,7 @@ use crate::type_names::TypeNames;
 use cedar_data::{Dup, Map, Mem, Set};
 use cedar_definitions::{ValidatorNamespaceDef, ValidatorSchemaFragment};
 use cedar_names::{EntityType, EntityUID, InternalName};
-use cedar_written::RefName;
+use cedar_schema_error::RefName;
 use std::alloc::Global;
 
 /// Puts the names of entity types to the others.

@@ -15,6 +15,15 @@ mod spaces;
 mod type_names;
 
 pub use all_defs::AllDefs;
+pub use cedar_definitions::{
+    ActionFragment, ActionsDef, CommonTypeDefs, EntityTypeFragment, EntityTypesDef,
+    ValidatorApplySpec, ValidatorNamespaceDef, ValidatorSchemaFragment,
+};
+pub use cedar_schema_error::{
+    ActionEntityUID, ActionNotDefinedError, AttributesOrContext, ConditionalName, RecordType,
+    ReferenceType, SchemaError, SchemaType, Step, TypeNotDefinedError, TypeOfAttribute,
+    TypeVariant, UndeclaredEntityTypesError, UsePlace,
+};
 pub use fully_qualify::FullyQualify;
 pub use laws::what_is_found_is_the_target;
 pub use resolve::ResolveName;

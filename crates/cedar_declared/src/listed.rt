@@ -17,8 +17,7 @@ ghost use Rattle.cedar_declared.specs.TypeNames.{place_alone};
 use crate::all_defs::AllDefs;
 use crate::type_names::TypeNames;
 use cedar_data::{Dup, Mem, SetIter};
-use cedar_names::{Eid, EntityUID, Id, InternalName};
-use cedar_text::Loc;
+use cedar_names::{Eid, EntityUID, Id, InternalName, Loc};
 use std::alloc::Global;
 
 impl TypeNames {

@@ -12,9 +12,8 @@ ghost use Rattle.cedar_declared.specs.Targets.{resolved};
 use crate::all_defs::AllDefs;
 use cedar_data::Items;
 use cedar_definitions::{ConditionalName, ReferenceType};
-use cedar_names::InternalName;
+use cedar_names::{InternalName, NonEmpty, NonEmptyIter};
 use cedar_schema_error::TypeNotDefinedError;
-use cedar_text::{NonEmpty, NonEmptyIter};
 
 /// Names that are references.
 pub trait ResolveName: Sized {

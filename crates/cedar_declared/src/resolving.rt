@@ -12,9 +12,8 @@ use crate::all_defs::AllDefs;
 use crate::resolve::ResolveName;
 use cedar_data::{Dup, Failure, Mem, Out, Text};
 use cedar_definitions::{ActionEntityUID, ConditionalName, ReferenceType, Step, type_or_action};
-use cedar_names::{Eid, EntityType, EntityUID, InternalName, Name};
+use cedar_names::{Eid, EntityType, EntityUID, InternalName, Name, NonEmpty};
 use cedar_schema_error::{ActionNotDefinedError, SchemaError};
-use cedar_text::NonEmpty;
 use std::alloc::Global;
 
 /// The step that gives each reference the full name that it means among declared names.

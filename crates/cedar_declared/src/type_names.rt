@@ -8,8 +8,7 @@ ghost use Rattle.cedar_declared.specs.TypeNames.{with_name};
 
 use crate::name_set::NameSet;
 use cedar_data::{Dup, Map, Mem};
-use cedar_names::{Id, InternalName};
-use cedar_text::Loc;
+use cedar_names::{Id, InternalName, Loc};
 use std::alloc::Global;
 
 /// Names of types. Those of one component are kept by it, so that it can be looked up without a name.

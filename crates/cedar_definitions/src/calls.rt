@@ -10,9 +10,8 @@ use crate::structures::{
     ActionFragment, ActionsDef, EntityTypeFragment, EntityTypesDef, ValidatorApplySpec,
     ValidatorNamespaceDef, ValidatorSchemaFragment,
 };
-use cedar_data::{Items, Map, MapKeys, Set, SetIter};
-use cedar_names::{EntityType, EntityUID, InternalName};
-use cedar_written::{RefName, SchemaType};
+use cedar_fragment::{RefName, SchemaType};
+use cedar_names::{EntityType, EntityUID, InternalName, Items, Map, MapKeys, Set, SetIter};
 use std::alloc::Global;
 
 /// The full names of entity types, in order.

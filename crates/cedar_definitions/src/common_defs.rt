@@ -6,9 +6,8 @@ ghost use Rattle.cedar_names.specs.Names.{internal_cmp};
 ghost use Rattle.cedar_definitions.specs.CommonDefs.{IsOfCommonTypes, name_in, named_types};
 
 use crate::structures::{ActionsDef, CommonTypeDefs, EntityTypesDef, ValidatorNamespaceDef};
-use cedar_data::{Map, Mem};
-use cedar_names::{InternalName, UnreservedId};
-use cedar_written::{ConditionalName, SchemaType};
+use cedar_fragment::{ConditionalName, SchemaType};
+use cedar_names::{InternalName, Map, Mem, UnreservedId};
 use std::alloc::Global;
 use std::collections::BTreeMap;
 

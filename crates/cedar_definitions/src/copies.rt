@@ -3,8 +3,8 @@ use crate::structures::{
     ActionFragment, ActionsDef, CommonTypeDefs, EntityTypeFragment, EntityTypesDef,
     ValidatorApplySpec, ValidatorNamespaceDef, ValidatorSchemaFragment,
 };
-use cedar_data::{Dup, Mem, dup_four, dup_three, dup_two};
-use cedar_written::RefName;
+use cedar_fragment::RefName;
+use cedar_names::{Dup, Mem, dup_four, dup_three, dup_two};
 use std::alloc::Global;
 
 impl<N: RefName + Ord + Dup + Drop, A: Ord + Dup + Drop> Dup for ValidatorSchemaFragment<N, A> {

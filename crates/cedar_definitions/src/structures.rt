@@ -1,9 +1,8 @@
 // SPDX-License-Identifier: Apache-2.0
-use cedar_data::{Items, Map, Set, Text};
-use cedar_fragment::{ActionEntityUID, Attributes, AttributesOrContext, ValueMap};
-use cedar_names::{EntityType, EntityUID, InternalName};
-use cedar_text::{Loc, NonEmpty};
-use cedar_written::{RefName, SchemaType};
+use cedar_fragment::{
+    ActionEntityUID, Attributes, AttributesOrContext, RefName, SchemaType, ValueMap,
+};
+use cedar_names::{EntityType, EntityUID, InternalName, Items, Loc, Map, NonEmpty, Set, Text};
 
 /// A list of namespace definitions, over names `N`, where actions apply to names `A`.
 #[derive(Debug, Drop)]

@@ -6,9 +6,8 @@ ghost use Rattle.cedar_definitions.specs.Structures.{definitions_of};
 ghost use Rattle.cedar_definitions.specs.Walks.{namespaces_left, namespaces_of, parents_left, parents_of};
 
 use crate::structures::{EntityTypeFragment, ValidatorNamespaceDef, ValidatorSchemaFragment};
-use cedar_data::SetIter;
-use cedar_names::InternalName;
-use cedar_written::RefName;
+use cedar_fragment::RefName;
+use cedar_names::{InternalName, SetIter};
 use std::slice::Iter;
 
 /// The namespaces of definitions, in the order of the definitions; none for the unnamed one.

@@ -9,8 +9,7 @@ ghost use Rattle.cedar_written.specs.Answers.{IfRefused};
 use crate::declaration::{Declaration, Declares};
 use cedar_data::{Dup, Failure, Items, Map, Mem, Out, Set};
 use cedar_definitions::ValidatorNamespaceDef;
-use cedar_schema_error::SchemaError;
-use cedar_written::RefName;
+use cedar_schema_error::{RefName, SchemaError};
 use std::alloc::Global;
 
 /// Refused with the first full name that definitions declare a second time: by definition in order, in each by common

@@ -3,7 +3,7 @@
 use Rattle.std.proofs.Common.{◌≡◌, List, map, Some, option_map, IfOk, refl}
 use Rattle.std.specs.declared.result.Result.{Result}
 use Rattle.std.specs.declared.result.Result.TheVariants.{Ok}
-use Rattle.cedar_data.specs.Maps.{map_values}
+use Rattle.cedar_types.specs.of_data.Maps.{map_values}
 use Rattle.cedar_written.specs.Answers.{and_then, all_items, all_values, in_option}
 use Rattle.cedar_written.specs.Reference.{Reference, parent, renamed}
 use Rattle.cedar_written.specs.Through.{through_names, through_type}

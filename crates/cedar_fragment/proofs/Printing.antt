@@ -3,12 +3,12 @@
 use Rattle.std.proofs.Common.{◌≡◌, ◌∙◌, ℕ, List, [], ◌∷◌, ◌++◌, Option, Some, refl, sym, ap}
 use Rattle.std.specs.Prelude.{codes}
 use Rattle.std.specs.Fmt.{◌++?◌}
-use Rattle.cedar_text.specs.declared.non_empty.NonEmpty.{NonEmpty}
-use Rattle.cedar_text.specs.Joining.{joined}
-use Rattle.cedar_text.specs.Lists.{elements}
-use Rattle.cedar_names.specs.Components.{components}
-use Rattle.cedar_names.specs.Names.{internal_of}
-use Rattle.cedar_names.specs.declared.name.Name.{Name}
+use Rattle.cedar_types.specs.of_text.declared.non_empty.NonEmpty.{NonEmpty}
+use Rattle.cedar_types.specs.of_text.Joining.{joined}
+use Rattle.cedar_types.specs.of_text.Lists.{elements}
+use Rattle.cedar_types.specs.of_names.Components.{components}
+use Rattle.cedar_types.specs.of_names.Names.{internal_of}
+use Rattle.cedar_types.specs.of_names.declared.name.Name.{Name}
 use Rattle.cedar_print.specs.Annotations.{nameless}
 use Rattle.cedar_print.specs.Pieces.{Pieces, line_end, mark, named, name_pieces, quoted_alone, space, text_of}
 use Rattle.cedar_print.proofs.Texts.{nothing_behind, text_of-append, text_of-bracketed, text_of-name}

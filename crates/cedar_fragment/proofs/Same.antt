@@ -8,7 +8,7 @@ use Rattle.cedar_written.specs.Bare.{nameless}
 use Rattle.cedar_written.specs.Reference.{Reference}
 use Rattle.cedar_written.specs.declared.ref_name.RefName as ref_name
 use Rattle.cedar_written.proofs.Same.{at_ok, nothing}
-use Rattle.cedar_data.specs.declared.memory.Failure.{Failure}
+use Rattle.cedar_types.specs.of_data.declared.memory.Failure.{Failure}
 use Rattle.cedar_fragment.specs.Definitions.{bare_namespace, over_nothing, through_namespace}
 use Rattle.cedar_fragment.specs.declared.definitions.NamespaceDefinition.{NamespaceDefinition}
 use Rattle.cedar_fragment.proofs.Keeps.{namespace_kept}

@@ -1,10 +1,10 @@
 -- SPDX-License-Identifier: Apache-2.0
 -- Actions as parents of others: a type, which names as written may leave out, and an id.
 use Rattle.std.specs.Prelude.{◌≡◌, ℕ, Bool, true, false, ◌||◌, IsTrue, List, Option, Some, None, refl}
-use Rattle.cedar_names.specs.EntityUids.{eid_of, eid_text, place_of}
-use Rattle.cedar_names.specs.declared.entity_uid.EntityUID.{EntityUID}
-use Rattle.cedar_names.specs.declared.internal_name.InternalName.{InternalName}
-use Rattle.cedar_names.specs.declared.name.Name.{Name}
+use Rattle.cedar_types.specs.of_names.EntityUids.{eid_of, eid_text, place_of}
+use Rattle.cedar_types.specs.of_names.declared.entity_uid.EntityUID.{EntityUID}
+use Rattle.cedar_types.specs.of_names.declared.internal_name.InternalName.{InternalName}
+use Rattle.cedar_types.specs.of_names.declared.name.Name.{Name}
 use Rattle.cedar_written.specs.declared.conditional_name.ConditionalName.{ConditionalName}
 use Rattle.cedar_written.specs.declared.raw_name.RawName.{RawName}
 use Rattle.cedar_written.specs.declared.ref_name.RefName as ref_name

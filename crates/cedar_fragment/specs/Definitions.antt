@@ -4,7 +4,7 @@ use Rattle.std.specs.Prelude.{false, List, map}
 use Rattle.std.specs.Option.{option_map}
 use Rattle.std.specs.declared.result.Result.{Result}
 use Rattle.std.specs.declared.result.Result.TheVariants.{Ok}
-use Rattle.cedar_data.specs.Maps.{map_values}
+use Rattle.cedar_types.specs.of_data.Maps.{map_values}
 use Rattle.cedar_written.specs.Answers.{and_then, all_items, all_values, in_option}
 use Rattle.cedar_written.specs.Bare.{nameless}
 use Rattle.cedar_written.specs.Reference.{Reference, named, parent}

@@ -1,4 +1,5 @@
 -- SPDX-License-Identifier: Apache-2.0
+pub mod of_closure
 pub use Rattle.cedar_json_fault.specs.JsonTexts
 pub use Rattle.cedar_json_fault.specs.JsonErrors
 pub mod ActionUids

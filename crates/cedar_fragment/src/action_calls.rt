@@ -1,17 +1,18 @@
 // SPDX-License-Identifier: Apache-2.0
 ghost use Rattle.std.specs.Prelude.{◌≡◌, Some, None, true, unwrap_or, IfOk, MatchResult};
 ghost use Rattle.std.specs.Option.{option_copied};
-ghost use Rattle.cedar_names.specs.Components.{components, has_cedar, qualified};
-ghost use Rattle.cedar_names.specs.EntityUids.{eid_of, eid_text, entity_type_of, place_of};
-ghost use Rattle.cedar_names.specs.Names.{internal_of, name_of};
+ghost use Rattle.cedar_types.specs.of_names.Components.{components, has_cedar, qualified};
+ghost use Rattle.cedar_types.specs.of_names.EntityUids.{eid_of, eid_text, entity_type_of, place_of};
+ghost use Rattle.cedar_types.specs.of_names.Names.{internal_of, name_of};
 ghost use Rattle.cedar_written.specs.Possibilities.{written};
 ghost use Rattle.cedar_written.specs.Qualifying.{action_name};
 ghost use Rattle.cedar_fragment.specs.ActionUids.{IsEntity, over_conditional, over_full, over_internal, raw_uid, type_in, uid_of};
 
 use crate::action_uid::ActionEntityUID;
-use cedar_data::{Dup, Mem, Text};
-use cedar_names::{Eid, EntityType, EntityUID, InternalName, Name, ReservedNameError};
-use cedar_written::{ConditionalName, RawName, RefName, type_or_action};
+use cedar_json_fault::{ConditionalName, RawName, RefName, type_or_action};
+use cedar_types::{
+    Dup, Eid, EntityType, EntityUID, InternalName, Mem, Name, ReservedNameError, Text,
+};
 use std::alloc::Global;
 
 /// The action `id` of the action type `ty`.

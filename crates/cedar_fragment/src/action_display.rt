@@ -8,9 +8,8 @@ ghost use Rattle.cedar_fragment.specs.Printed.{print_action, print_action_parent
 use crate::action_uid::ActionEntityUID;
 use crate::definitions::ActionType;
 use crate::display::{write_apply_clause, write_parents};
-use cedar_data::{Items, Text};
-use cedar_print::{Quoted, write_item};
-use cedar_written::RefName;
+use cedar_json_fault::{Quoted, RefName, write_item};
+use cedar_types::{Items, Text};
 use std::fmt::{self, Display};
 
 /// Its type, `Action` where it has none, and its quoted id.

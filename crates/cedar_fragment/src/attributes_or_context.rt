@@ -6,9 +6,8 @@ ghost use Rattle.cedar_written.specs.WrittenTypes.{IsEmptyType, empty_record, pl
 ghost use Rattle.cedar_written.specs.declared.ty.SchemaType.TheVariants as type;
 ghost use Rattle.cedar_written.specs.declared.ty.TypeVariant.TheVariants as variant;
 
-use cedar_data::{Dup, Mem};
-use cedar_text::Loc;
-use cedar_written::{RecordType, SchemaType, TypeVariant};
+use cedar_json_fault::{RecordType, SchemaType, TypeVariant};
+use cedar_types::{Dup, Loc, Mem};
 use std::alloc::Global;
 
 /// The shape of an entity type, or the context of an action: a type, which has to be one of records in the end.

@@ -3,8 +3,8 @@ use crate::definitions::{
     ActionType, ApplySpec, CommonType, EntityType, EntityTypeKind, Fragment, NamespaceDefinition,
     StandardEntityType,
 };
-use cedar_data::{Dup, Mem, dup_four, dup_three, dup_two};
-use cedar_written::RefName;
+use cedar_json_fault::RefName;
+use cedar_types::{Dup, Mem, dup_four, dup_three, dup_two};
 use std::alloc::Global;
 
 impl<N: RefName + Dup + Drop> Dup for Fragment<N> {

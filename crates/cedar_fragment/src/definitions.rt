@@ -1,11 +1,8 @@
 // SPDX-License-Identifier: Apache-2.0
 use crate::action_uid::ActionEntityUID;
 use crate::attributes_or_context::AttributesOrContext;
-use cedar_data::{Items, Map, Text};
-use cedar_names::{Annotations, Name, UnreservedId};
-use cedar_text::{Loc, NonEmpty};
-use cedar_types::ValueMap;
-use cedar_written::{CommonTypeId, RefName, SchemaType};
+use cedar_json_fault::{CommonTypeId, RefName, SchemaType};
+use cedar_types::{Annotations, Items, Loc, Map, Name, NonEmpty, Text, UnreservedId, ValueMap};
 
 /// A schema over names `N`: the definitions of its namespaces, those of the unnamed one first.
 #[derive(Debug, Drop, PartialEq, Eq)]

@@ -6,10 +6,8 @@ ghost use Rattle.cedar_fragment.specs.Printed.{parents_printed, print_applies, p
 
 use crate::attributes_or_context::AttributesOrContext;
 use crate::definitions::{ApplySpec, EntityType, EntityTypeKind, StandardEntityType};
-use cedar_data::{Items, Text};
-use cedar_print::{write_list, write_quoted_list};
-use cedar_text::NonEmpty;
-use cedar_written::SchemaType;
+use cedar_json_fault::{SchemaType, write_list, write_quoted_list};
+use cedar_types::{Items, NonEmpty, Text};
 use std::fmt::{self, Display};
 
 /// As its type.

@@ -7,7 +7,7 @@ ghost use Rattle.cedar_fragment.specs.Definitions.{bare_namespace, through_names
 ghost use Rattle.cedar_fragment.specs.References.{references_of_namespace};
 ghost use Rattle.cedar_fragment.specs.declared.definitions.NamespaceDefinition.{NamespaceDefinition};
 
-use cedar_written::{RefName, Step};
+use cedar_json_fault::{RefName, Step};
 
 /// A law of the walk over the names of a namespace. It is refused with the first of its references that is refused, in
 /// the order of fields and keys; and where none is, all but the names stays as it was. It does nothing when it runs.

@@ -18,15 +18,13 @@ mod walked;
 pub use action_uid::ActionEntityUID;
 pub use attributes_or_context::AttributesOrContext;
 pub use cedar_json_fault::{
-    JsonDeserializationAdvice, JsonDeserializationError, JsonFault, JsonKind, JsonShape, NameKind,
-};
-pub use cedar_types::{
-    Attributes, CedarValueJson, ValueList, ValueListIter, ValueMap, ValueMapIter,
-};
-pub use cedar_written::{
-    CommonTypeId, ConditionalName, Never, Qualifying, RawName, RecordType, RefName, ReferenceType,
+    CommonTypeId, ConditionalName, JsonDeserializationAdvice, JsonDeserializationError, JsonFault,
+    JsonKind, JsonShape, NameKind, Never, Qualifying, RawName, RecordType, RefName, ReferenceType,
     ReservedCommonTypeBasenameError, SchemaType, Step, Type, TypeOfAttribute, TypeVariant, Walk,
     type_or_action, walk_names, walk_unrefused,
+};
+pub use cedar_types::{
+    Attributes, CedarValueJson, TcError, ValueList, ValueListIter, ValueMap, ValueMapIter,
 };
 pub use definitions::{
     ActionType, ApplySpec, CommonType, EntityType, EntityTypeKind, Fragment, NamespaceDefinition,

@@ -6,10 +6,8 @@ ghost use Rattle.cedar_print.specs.Pieces.{text_of};
 ghost use Rattle.cedar_fragment.specs.Printed.{action_head, common_head, entity_head, namespace_head, print, print_action_declaration, print_common, print_entity_declaration, print_named, print_namespace, print_under};
 
 use crate::definitions::{ActionType, CommonType, EntityType, Fragment, NamespaceDefinition};
-use cedar_data::{Map, Text};
-use cedar_names::{Name, UnreservedId};
-use cedar_print::{Quoted, write_annotations};
-use cedar_written::{CommonTypeId, RefName};
+use cedar_json_fault::{CommonTypeId, Quoted, RefName, write_annotations};
+use cedar_types::{Map, Name, Text, UnreservedId};
 use std::fmt::{self, Display};
 
 /// The schema, as the human syntax writes it: each namespace in order.

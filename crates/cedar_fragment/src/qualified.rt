@@ -9,9 +9,8 @@ ghost use Rattle.cedar_fragment.specs.Definitions.{bare_namespace, through_actio
 use crate::action_uid::ActionEntityUID;
 use crate::attributes_or_context::AttributesOrContext;
 use crate::definitions::{ActionType, ApplySpec, EntityType, NamespaceDefinition};
-use cedar_data::Mem;
-use cedar_names::InternalName;
-use cedar_written::{ConditionalName, Qualifying, RawName, walk_unrefused};
+use cedar_json_fault::{ConditionalName, Qualifying, RawName, walk_unrefused};
+use cedar_types::{InternalName, Mem};
 use std::alloc::Global;
 
 impl NamespaceDefinition<RawName> {

@@ -13,8 +13,8 @@ use crate::definitions::{
     ActionType, ApplySpec, CommonType, EntityType, EntityTypeKind, NamespaceDefinition,
     StandardEntityType,
 };
-use cedar_data::{Items, Out};
-use cedar_written::{RefName, ReferenceType, Step, Walk, walk_names};
+use cedar_json_fault::{RefName, ReferenceType, Step, Walk, walk_names};
+use cedar_types::{Items, Out};
 use std::alloc::Global;
 
 /// What comes of two parts, or the first refusal.

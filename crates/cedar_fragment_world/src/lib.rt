@@ -5,4 +5,7 @@
 
 mod laws;
 
+pub use cedar_namespace_definitions::{
+    FromNamespaceDefinition, FromSchemaFragment, ValidatorNamespaceDef, ValidatorSchemaFragment,
+};
 pub use laws::{faults_of_fragments, worlds_of_fragments};

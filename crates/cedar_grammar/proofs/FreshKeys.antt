@@ -5,7 +5,7 @@ use Rattle.std.specs.List.{list_all}
 use Rattle.std.specs.Str.{bytes_eq}
 use Rattle.std.proofs.lemmas.List.{length-replicate}
 use Rattle.std.proofs.lemmas.Slice.Eq.{bytes_eq-Decides}
-use Rattle.cedar_text.specs.Words.{is_word, is_word_byte, has_word}
+use Rattle.cedar_tokens.specs.of_text.Words.{is_word, is_word_byte, has_word}
 
 -- the length of some words together
 total : List (List ℕ) → ℕ

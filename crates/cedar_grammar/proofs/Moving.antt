@@ -5,7 +5,7 @@ use Rattle.std.specs.Option.{option_and_then}
 use Rattle.std.proofs.lemmas.List.{map-append}
 use Rattle.cedar_data.specs.Maps.{map_of}
 use Rattle.cedar_data.proofs.MapsMade.{map-map_of}
-use Rattle.cedar_names.specs.Order.{word_cmp}
+use Rattle.cedar_tree.specs.of_names.Order.{word_cmp}
 use Rattle.cedar_tokens.specs.Lexemes.{TextToken}
 use Rattle.cedar_grammar.specs.Productions.{Production, class, gives, ◌>>=◌, ◌>>◌, ◌∣◌, ReadsMany, none, more, many, ReadsEach, none_yet, then_one, each, optional, maybe, separated, trailing}
 use Rattle.cedar_tree.specs.Trees.{Node, Place, Text, Annotation, Annotations, by_key, stands, placed, Annotated, TypeTree, Set, Attrs, attrs_of, no_attrs, AttrDecl, ContextDecl, Named, Shape, Principal, Resource, Types, Context, Declaration, Schema}

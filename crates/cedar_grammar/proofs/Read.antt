@@ -3,9 +3,9 @@
 use Rattle.std.proofs.Common.{◌≡◌, ℕ, zero, suc, Bool, true, false, if◌then◌else◌, IsTrue, List, [], ◌∷◌, map, All, Option, Some, None, IfSome, option_map, codes, sym, subst, inl, inr}
 use Rattle.std.proofs.lemmas.Cmp.{nat_list_cmp_total}
 use Rattle.std.proofs.lemmas.List.Elements.{All-nil, All-cons, All-head, All-tail, All-map}
-use Rattle.cedar_names.specs.Order.{word_cmp}
+use Rattle.cedar_tree.specs.of_names.Order.{word_cmp}
 use Rattle.cedar_tokens.specs.Lexemes.{TextToken}
-use Rattle.cedar_text.specs.Words.{is_id}
+use Rattle.cedar_tokens.specs.of_text.Words.{is_id}
 use Rattle.cedar_grammar.specs.Productions.{Production, gives, ◌>>=◌, ◌>>◌, ◌∣◌, each, ReadsMany, none, more, many, optional, maybe, separated, trailing}
 use Rattle.cedar_tree.specs.Trees.{Node, Place, Text, stands, placed, Annotated, TypeTree, Set, attrs_of, no_attrs, AttrDecl, ContextDecl, Named, Shape, Types, Context, Declaration, Namespace, Schema, by_key}
 use Rattle.cedar_grammar.specs.Grammar.{at_token, text_where, is_ident_token, keyword, mark, ident, idents, names, path_of, path, bracketed, commas, str, name, types, one_or_list, qualified, ref, refs, annotation, annotated, annots, attr_of, attr_decl, record_type, pr, context_type, app_decl, set_type, as_record, as_name, type_upto, tags_clause, shape_at, behind_shape, shape_decl, standard_entity, enum_entity, applies_to, attributes_tail, action_decl, type_decl, decl, namespace, alone, item_behind, schema, Reads}

@@ -3,7 +3,7 @@
 use Rattle.std.proofs.Common.{◌≡◌, ℕ, Bool, true, false, not, ◌&&◌, if◌then◌else◌, List, Option, Some, None, refl}
 use Rattle.std.specs.Str.{bytes_eq}
 use Rattle.std.proofs.lemmas.Slice.Eq.{bytes_eq-Decides}
-use Rattle.cedar_text.specs.Words.{is_word, is_reserved_word, is_id}
+use Rattle.cedar_tokens.specs.of_text.Words.{is_word, is_reserved_word, is_id}
 use Rattle.cedar_tokens.specs.Lexemes.{TextToken}
 use Rattle.cedar_tokens.specs.declared.token.TokenKind.{TokenKind}
 use Rattle.cedar_tokens.specs.declared.token.TokenKind.TheVariants as kind

@@ -2,8 +2,8 @@
 -- Trees as they are read: an identifier stands wherever the grammar has one, and annotations are in the order of their keys.
 use Rattle.std.specs.Prelude.{IsTrue, All, IfSome}
 use Rattle.cedar_data.specs.Maps.{IsSortedMap}
-use Rattle.cedar_names.specs.Order.{word_cmp}
-use Rattle.cedar_text.specs.Words.{is_id}
+use Rattle.cedar_tree.specs.of_names.Order.{word_cmp}
+use Rattle.cedar_tokens.specs.of_text.Words.{is_id}
 use Rattle.cedar_tree.specs.Trees.{Node, Text, Path, ByKey, TypeTree, Set, Ident, Record, Attrs, no_attrs, attr, ContextDecl, Named, Shape, EntityDecl, Standard, Enum, QualName, AppDecl, Types, Context, ActionDecl, Declaration, Entity, Action, Common, Annotated, Namespace, Schema}
 
 -- an identifier

@@ -4,8 +4,8 @@ use Rattle.std.specs.Prelude.{ℕ, zero, suc, ◌+◌, ◌-◌, ◌≤◌, Bool,
 use Rattle.std.specs.List.{starts_with, ends_with}
 use Rattle.std.specs.Option.{option_and_then}
 use Rattle.std.specs.Result.{result_ok}
-use Rattle.cedar_text.specs.Words.{is_word, is_id, has_word}
-use Rattle.cedar_text.specs.Unescaping.{unescaped}
+use Rattle.cedar_tokens.specs.of_text.Words.{is_word, is_id, has_word}
+use Rattle.cedar_tokens.specs.of_text.Unescaping.{unescaped}
 use Rattle.cedar_tokens.specs.Lexemes.{TextToken}
 use Rattle.cedar_tokens.specs.declared.token.TokenKind.{TokenKind}
 use Rattle.cedar_tokens.specs.declared.token.TokenKind.TheVariants as kind

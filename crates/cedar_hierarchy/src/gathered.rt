@@ -6,7 +6,7 @@ ghost use Rattle.cedar_hierarchy.specs.Children.{has_parent, is_child};
 
 use crate::children::{Children, link};
 use cedar_data::{Dup, Map, Mem, Set};
-use cedar_declared::AllDefs;
+use cedar_tables::AllDefs;
 use std::alloc::Global;
 
 /// What has parents, whose keys are `K`.

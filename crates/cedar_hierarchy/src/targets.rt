@@ -15,9 +15,9 @@ ghost use Rattle.cedar_schema_error.specs.FullNames.{uid_in};
 ghost use Rattle.cedar_schema_error.specs.NameReferences.{action_reference_of};
 
 use cedar_data::{Dup, Mem, Set, Text};
-use cedar_declared::AllDefs;
-use cedar_fragment::{ActionEntityUID, ConditionalName, ReferenceType};
 use cedar_names::{Eid, EntityType, EntityUID, InternalName, Name};
+use cedar_schema_error::{ActionEntityUID, ConditionalName, ReferenceType};
+use cedar_tables::AllDefs;
 use std::alloc::Global;
 
 /// References to what has keys `K`.

@@ -6,8 +6,7 @@ ghost use Rattle.cedar_json_fault.specs.JsonErrors.{advice_of, fault_of, json_er
 ghost use Rattle.cedar_json_fault.specs.JsonTexts.{advice_text, fault_text};
 
 use crate::json_fault::JsonFault;
-use cedar_data::{Dup, Items, Mem, Text};
-use cedar_written::Span;
+use cedar_written::{Dup, Items, Mem, Span, Text};
 use std::alloc::Global;
 use std::error::Error;
 use std::fmt;

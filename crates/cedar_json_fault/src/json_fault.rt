@@ -4,8 +4,9 @@ ghost use Rattle.std.specs.Fmt.{WritesOnOk};
 ghost use Rattle.cedar_json_fault.specs.JsonTexts.{listed, others_text};
 ghost use Rattle.cedar_json_fault.specs.declared.json_fault.JsonFault.TheVariants.{InvalidName};
 
-use cedar_data::{Dup, Items, Mem, Text};
-use cedar_written::{NameFault, ReservedCommonTypeBasenameError, UnreservedId};
+use cedar_written::{
+    Dup, Items, Mem, NameFault, ReservedCommonTypeBasenameError, Text, UnreservedId,
+};
 use std::alloc::Global;
 use std::fmt;
 

@@ -1,4 +1,5 @@
 -- SPDX-License-Identifier: Apache-2.0
+pub mod of_declared
 pub mod FirstUndefined
 pub mod Joins
 pub mod ParentsFound

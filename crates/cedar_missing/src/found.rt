@@ -8,8 +8,7 @@ ghost use Rattle.cedar_declared.specs.Targets.{found};
 ghost use Rattle.cedar_missing.specs.Undeclared.{found_parent};
 
 use cedar_data::{Dup, Failure, Mem, NoMemory};
-use cedar_declared::{AllDefs, Resolving};
-use cedar_fragment::{ActionEntityUID, ConditionalName, ReferenceType, Step};
+use cedar_declared::{ActionEntityUID, AllDefs, ConditionalName, ReferenceType, Resolving, Step};
 use cedar_names::InternalName;
 use std::alloc::Global;
 

@@ -8,5 +8,6 @@ mod members;
 mod missing;
 mod undefined;
 
+pub use cedar_declared::{AllDefs, SchemaError, UndeclaredEntityTypesError, UsePlace};
 pub use looked_at::HasReferences;
 pub use missing::Missing;

@@ -7,12 +7,11 @@ ghost use Rattle.cedar_missing.specs.Undeclared.{missing_in_action, missing_in_a
 use crate::missing::{Missing, push_all};
 use crate::undefined::missing_in_type;
 use cedar_data::{Items, Map, Mem};
-use cedar_declared::AllDefs;
-use cedar_definitions::{
-    ActionFragment, ActionsDef, CommonTypeDefs, EntityTypeFragment, EntityTypesDef,
-    ValidatorApplySpec, ValidatorNamespaceDef, ValidatorSchemaFragment,
+use cedar_declared::{
+    ActionFragment, ActionsDef, AllDefs, AttributesOrContext, CommonTypeDefs, ConditionalName,
+    EntityTypeFragment, EntityTypesDef, SchemaType, ValidatorApplySpec, ValidatorNamespaceDef,
+    ValidatorSchemaFragment,
 };
-use cedar_fragment::{AttributesOrContext, ConditionalName, SchemaType};
 use std::alloc::Global;
 
 /// What has references that may mean nothing declared.

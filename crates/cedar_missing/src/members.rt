@@ -6,8 +6,7 @@ use crate::found::{find_parent, find_target};
 use crate::looked_at::HasReferences;
 use crate::missing::Missing;
 use cedar_data::{Dup, Mem, Set};
-use cedar_declared::AllDefs;
-use cedar_fragment::{ActionEntityUID, ConditionalName};
+use cedar_declared::{ActionEntityUID, AllDefs, ConditionalName};
 use std::alloc::Global;
 
 /// A parent of an entity type, a principal or a resource.

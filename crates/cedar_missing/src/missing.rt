@@ -3,10 +3,10 @@ ghost use Rattle.std.specs.Prelude.{◌≡◌, ◌++◌, OnOk};
 ghost use Rattle.cedar_missing.specs.Undeclared.{joined, no_missing, refusal_of, reserved_refusal};
 
 use cedar_data::{Items, Mem};
-use cedar_fragment::{ActionEntityUID, ConditionalName};
-use cedar_names::{InternalName, ReservedNameError};
-use cedar_schema_error::{ActionNotDefinedError, SchemaError, TypeNotDefinedError};
-use cedar_text::NonEmpty;
+use cedar_declared::{
+    ActionEntityUID, ActionNotDefinedError, ConditionalName, SchemaError, TypeNotDefinedError,
+};
+use cedar_names::{InternalName, NonEmpty, ReservedNameError};
 use std::alloc::Global;
 
 /// What the references of definitions miss.

@@ -8,8 +8,9 @@ ghost use Rattle.cedar_written.specs.References.{references, references_of_attri
 
 use crate::found::find_target;
 use cedar_data::{Dup, Items, Map, Mem, Text};
-use cedar_declared::AllDefs;
-use cedar_fragment::{ConditionalName, RecordType, SchemaType, TypeOfAttribute, TypeVariant};
+use cedar_declared::{
+    AllDefs, ConditionalName, RecordType, SchemaType, TypeOfAttribute, TypeVariant,
+};
 use std::alloc::Global;
 
 /// The first reference of a type that means nothing declared, alone, if there is one.

@@ -12,7 +12,7 @@ use Rattle.std.specs.Ordering.{match_ordering, is_eq}
 use Rattle.std.specs.Str.{bytes_eq}
 use Rattle.std.specs.declared.cmp.Ordering.{Ordering}
 use Rattle.std.specs.declared.cmp.Ordering.TheVariants.{Less, Equal, Greater}
-use Rattle.cedar_data.specs.Sets.{contains}
+use Rattle.cedar_text.specs.of_data.Sets.{contains}
 use Rattle.cedar_names.specs.ExtensionFaults.{fault_before, naming_fault, extensions_fault}
 use Rattle.cedar_text.specs.Faults.{word_fault, no_unreserved_id}
 use Rattle.cedar_names.specs.Identifiers.{unreserved_word, unreserved_words}

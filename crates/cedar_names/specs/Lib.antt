@@ -1,10 +1,12 @@
 -- SPDX-License-Identifier: Apache-2.0
+pub mod of_text
+pub mod of_data
 pub use Rattle.cedar_text.specs.Lists
 pub use Rattle.cedar_text.specs.Joining
 pub use Rattle.cedar_text.specs.Escapes
-pub use Rattle.cedar_data.specs.Maps
-pub use Rattle.cedar_data.specs.Sets
-pub use Rattle.cedar_data.specs.formers
+pub use Rattle.cedar_text.specs.of_data.Maps
+pub use Rattle.cedar_text.specs.of_data.Sets
+pub use Rattle.cedar_text.specs.of_data.formers
 pub mod Annotating
 pub mod Components
 pub mod EntityUids

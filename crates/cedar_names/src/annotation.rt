@@ -3,13 +3,12 @@ ghost use Rattle.std.specs.Prelude.{◌≡◌, [], ◌↔◌, ℕ, List, cond, S
 ghost use Rattle.std.specs.BTreeMap.{insert_entry};
 ghost use Rattle.std.specs.Option.{option_copied};
 ghost use Rattle.std.specs.Str.{bytes_eq};
-ghost use Rattle.cedar_data.specs.Maps.{IsSortedMap};
+ghost use Rattle.cedar_text.specs.of_data.Maps.{IsSortedMap};
 ghost use Rattle.cedar_names.specs.Annotating.{annotation_entries, annotation_at, any_cmp};
 ghost use Rattle.cedar_names.specs.Identifiers.{any_word};
 
 use crate::any_id::AnyId;
-use cedar_data::{Dup, Map, MapIter, Mem, Text};
-use cedar_text::Loc;
+use cedar_text::{Dup, Loc, Map, MapIter, Mem, Text};
 use std::alloc::Global;
 
 /// The value of an annotation. Comparisons leave the place out.

@@ -4,8 +4,7 @@ ghost use Rattle.cedar_text.specs.Failures.{IfRefused};
 ghost use Rattle.cedar_text.specs.Faults.{word_fault, no_any_id};
 ghost use Rattle.cedar_text.specs.Words.{is_word};
 
-use cedar_data::{Dup, Mem, Out, Text};
-use cedar_text::{NameFault, check_form, is_word};
+use cedar_text::{Dup, Mem, NameFault, Out, Text, check_form, is_word};
 use std::alloc::Global;
 use std::fmt;
 use std::fmt::Display;

@@ -8,9 +8,9 @@ ghost use Rattle.cedar_names.specs.Names.{internal_of, name_of, entity_words};
 ghost use Rattle.cedar_names.specs.EntityUids.{eid_text, entity_uid, entity_type_of, eid_of, place_of, uid_text};
 
 use crate::name::{EntityType, Name};
-use cedar_data::{Dup, Failure, Mem, Out, Text};
 use cedar_text::{
-    Escaped, Loc, NameFault, parts_of, quote_place, read_literal, words_before_quote,
+    Dup, Escaped, Failure, Loc, Mem, NameFault, Out, Text, parts_of, quote_place, read_literal,
+    words_before_quote,
 };
 use std::alloc::Global;
 use std::fmt;

@@ -9,8 +9,7 @@ ghost use Rattle.cedar_names.specs.Order.{word_cmp};
 ghost use Rattle.cedar_text.specs.Words.{has_word, is_primitive_word, is_unreserved_id};
 
 use crate::id::UnreservedId;
-use cedar_data::{Dup, Failure, Mem, Out, Set, SetIter, Text};
-use cedar_text::{NameFault, Span, is_primitive_word};
+use cedar_text::{Dup, Failure, Mem, NameFault, Out, Set, SetIter, Span, Text, is_primitive_word};
 use std::alloc::Global;
 use std::error::Error;
 use std::fmt;

@@ -5,8 +5,9 @@ ghost use Rattle.cedar_text.specs.Faults.{word_fault, no_id, no_unreserved_id};
 ghost use Rattle.cedar_text.specs.Words.{is_id, is_cedar, is_unreserved_id};
 
 use crate::internal_name::{InternalName, ReservedNameError};
-use cedar_data::{Dup, Mem, Out, Text};
-use cedar_text::{NameFault, check_form, is_cedar, is_reserved_word, is_word, reserved};
+use cedar_text::{
+    Dup, Mem, NameFault, Out, Text, check_form, is_cedar, is_reserved_word, is_word, reserved,
+};
 use std::alloc::Global;
 use std::fmt;
 use std::fmt::Display;

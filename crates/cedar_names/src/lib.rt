@@ -17,10 +17,11 @@ mod normal_name;
 
 pub use annotation::{Annotation, AnnotationIter, Annotations};
 pub use any_id::AnyId;
-pub use cedar_data::{Boxed, Dup, Failure, Items, Map, Mem, NoMemory, Out, Set, Shared, Text};
 pub use cedar_text::{
-    BadEscape, Escaped, EscapedByte, Loc, NameFault, Node, NonEmpty, NonEmptyIter, Span, escape,
-    literal_makes_an_entity, unescape, unescape_undoes_escape, words_make_a_name,
+    BadEscape, Boxed, Dup, Escaped, EscapedByte, Failure, Items, Loc, Map, MapIter, MapKeys, Mem,
+    NameFault, NoMemory, Node, NonEmpty, NonEmptyIter, Out, Set, SetIter, Shared, Span, Text,
+    dup_four, dup_three, dup_two, escape, is_cedar, literal_makes_an_entity, unescape,
+    unescape_undoes_escape, words_make_a_name,
 };
 pub use components::Components;
 pub use entity_uid::{Eid, EntityUID};

@@ -3,7 +3,7 @@ ghost use Rattle.std.specs.Prelude.{◌≡◌, [], ◌∷◌, ◌++◌, ◌↔�
 ghost use Rattle.std.specs.Slice.Iter.{iter_rest};
 
 use crate::id::Id;
-use cedar_data::{Dup, Items, Mem, Shared};
+use cedar_text::{Dup, Items, Mem, Shared};
 use std::alloc::Global;
 use std::marker::Model;
 use std::slice::Iter;

@@ -11,8 +11,7 @@ ghost use Rattle.cedar_text.specs.Words.{is_word};
 
 use crate::id::Id;
 use crate::internal_name::InternalName;
-use cedar_data::{Failure, Out, Text};
-use cedar_text::{NameFault, is_cedar, is_reserved_word, parts_of};
+use cedar_text::{Failure, NameFault, Out, Text, is_cedar, is_reserved_word, parts_of};
 use std::alloc::Global;
 
 /// Whether a name excludes the word, where `__cedar` is allowed and where it is not.

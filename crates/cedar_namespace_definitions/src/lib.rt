@@ -12,5 +12,6 @@ mod names;
 mod namespaces;
 mod sets;
 
+pub use cedar_definitions::{ValidatorNamespaceDef, ValidatorSchemaFragment};
 pub use fragments::FromSchemaFragment;
 pub use namespaces::FromNamespaceDefinition;

@@ -10,10 +10,10 @@ use Rattle.cedar_names.specs.Order.{words_cmp}
 use Rattle.cedar_qualified.specs.Agreeing.{AgreeingNames}
 use Rattle.cedar_schema_error.specs.FullNames.{FullName, Uid, uid_cmp}
 use Rattle.cedar_schema_error.specs.Refusals.{Refusal}
-use Rattle.cedar_shadowing.specs.Shadowing.{ActionShadows, IsLeastPair, NoPair, ShadowPasses, ShadowPhase, ShadowRefuses, ShadowsAction, ShadowsType, TypeShadows, shadow_phases}
+use Rattle.cedar_sound.specs.of_shadowing.Shadowing.{ActionShadows, IsLeastPair, NoPair, ShadowPasses, ShadowPhase, ShadowRefuses, ShadowsAction, ShadowsType, TypeShadows, shadow_phases}
 use Rattle.cedar_text.specs.Words.{primitive_words}
-use Rattle.cedar_world.specs.Definitions.{of_common_types}
-use Rattle.cedar_world.specs.Worlds.{alias, builtin_namespaces, builtins, is_free}
+use Rattle.cedar_qualified.specs.of_world.Definitions.{of_common_types}
+use Rattle.cedar_qualified.specs.of_world.Worlds.{alias, builtin_namespaces, builtins, is_free}
 use Rattle.cedar_written.specs.declared.reference_type.ReferenceType.{ReferenceType}
 use Rattle.cedar_written.specs.declared.reference_type.ReferenceType.TheVariants.{Common, Entity, CommonOrEntity}
 

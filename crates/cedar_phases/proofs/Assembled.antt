@@ -34,9 +34,9 @@ use Rattle.cedar_tables.specs.declared.outlines.ActionOutline.{ActionOutline}
 use Rattle.cedar_tables.specs.declared.outlines.EntityOutline.{EntityOutline}
 use Rattle.cedar_types.specs.declared.ty.ResolvedType.{ResolvedType}
 use Rattle.cedar_undeclared.specs.Undeclared.{is_free, undeclared_refusal}
-use Rattle.cedar_world.specs.Denotes.{Denotes, DenotesAction}
-use Rattle.cedar_world.specs.Descents.{ActionDescendsFrom}
-use Rattle.cedar_world.specs.Worlds.{World, actions, all_namespaces, names}
+use Rattle.cedar_qualified.specs.of_world.Denotes.{Denotes, DenotesAction}
+use Rattle.cedar_qualified.specs.of_world.Descents.{ActionDescendsFrom}
+use Rattle.cedar_qualified.specs.of_world.Worlds.{World, actions, all_namespaces, names}
 use Rattle.cedar_written.specs.declared.ty.SchemaType.{SchemaType}
 
 module _ (W : World) (all_defs : AllDefs) (full : List (InternalName × SchemaType InternalName)) (full_uses : List (UsePlace × SchemaType InternalName)) (used : List (UsePlace × ResolvedType))

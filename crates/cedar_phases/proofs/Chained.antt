@@ -5,7 +5,7 @@ use Rattle.std.specs.List.{AllZip}
 use Rattle.std.specs.Map.{lookup}
 use Rattle.std.specs.Option.{option_map}
 use Rattle.std.specs.declared.cmp.Ordering.{Ordering}
-use Rattle.cedar_closure.specs.Chains.{Reaches, one, more}
+use Rattle.cedar_types.specs.of_closure.Chains.{Reaches, one, more}
 use Rattle.cedar_data.specs.Firsts.{AllPass}
 use Rattle.cedar_data.specs.Sets.{IsSetOf}
 

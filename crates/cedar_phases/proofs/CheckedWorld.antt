@@ -7,9 +7,9 @@ use Rattle.cedar_data.specs.Firsts.{AllPass, FirstAgain, FirstRefused, NoneAgain
 use Rattle.cedar_declared.specs.Held.{names_of}
 use Rattle.cedar_declared.specs.Names.{Names}
 use Rattle.cedar_declared.specs.declared.all_defs.AllDefs.{AllDefs}
-use Rattle.cedar_duplicates.specs.Duplicates.{Action, AreOnce, CommonType, Declared, EntityType, IsTwice, duplicate, same_declared}
-use Rattle.cedar_duplicates.specs.Duplicates as code
-use Rattle.cedar_missing.specs.Undeclared.{Parent, missing_in_definition, missing_in_each, refusal_by, refusal_of}
+use Rattle.cedar_sound.specs.of_duplicates.Duplicates.{Action, AreOnce, CommonType, Declared, EntityType, IsTwice, duplicate, same_declared}
+use Rattle.cedar_sound.specs.of_duplicates.Duplicates as code
+use Rattle.cedar_qualified.specs.of_missing.Undeclared.{Parent, missing_in_definition, missing_in_each, refusal_by, refusal_of}
 use Rattle.cedar_names.specs.Components.{components}
 use Rattle.cedar_names.specs.Names.{entity_words}
 use Rattle.cedar_names.specs.declared.extensions.Extensions.{Extensions}
@@ -23,10 +23,10 @@ use Rattle.cedar_schema_error.specs.Told.{told}
 use Rattle.cedar_schema_error.specs.declared.schema_error.SchemaError.{SchemaError}
 use Rattle.cedar_sound.specs.References.{ReferencesPass, ReferencesRefuse, reference_phases}
 use Rattle.cedar_sound.specs.Sound.{Duplicates, Passes, References, RefusesAt, all_declared, declared_in}
-use Rattle.cedar_world.specs.DefinitionViews.{action_of, kind_in, namespace_in, type_in}
-use Rattle.cedar_world.specs.Definitions.{Namespace}
-use Rattle.cedar_world.specs.Missing.{missing_actions, missing_types, reserved_targets}
-use Rattle.cedar_world.specs.Worlds.{World, all_namespaces, names}
+use Rattle.cedar_qualified.specs.of_world.DefinitionViews.{action_of, kind_in, namespace_in, type_in}
+use Rattle.cedar_qualified.specs.of_world.Definitions.{Namespace}
+use Rattle.cedar_qualified.specs.of_world.Missing.{missing_actions, missing_types, reserved_targets}
+use Rattle.cedar_qualified.specs.of_world.Worlds.{World, all_namespaces, names}
 use Rattle.cedar_written.specs.declared.conditional_name.ConditionalName.{ConditionalName}
 
 same_inside : {A : Type 0} (x y : A) → Some x ≡ Some y → x ≡ y

@@ -6,7 +6,7 @@ use Rattle.cedar_phases.specs.Holding.{AllPassed, OneRefuses, early_phases, late
 use Rattle.cedar_schema_error.specs.FullNames.{Uid, uid_cmp}
 use Rattle.cedar_schema_error.specs.Refusals.{Refusal}
 use Rattle.cedar_sound.specs.Sound.{Cause, Passes, RefusesAt, Shadowing, Sound}
-use Rattle.cedar_world.specs.Worlds.{World}
+use Rattle.cedar_qualified.specs.of_world.Worlds.{World}
 
 module _ {A E : Type 0} (P : A → Type 0) (F : A → E → Type 0) where
   -- refused among the first, or after they pass

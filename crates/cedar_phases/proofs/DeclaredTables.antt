@@ -6,8 +6,8 @@ use Rattle.cedar_names.specs.declared.extensions.Extensions.{Extensions}
 use Rattle.cedar_phases.specs.Holding.{AreTables, Definition, Holds}
 use Rattle.cedar_tables.specs.Outlines.{action_outline, action_outline_in, entity_outline, entity_outline_in, use_in}
 use Rattle.cedar_tables.specs.declared.outlines.Tables.{Tables}
-use Rattle.cedar_world.specs.DefinitionViews.{common_type_in, namespace_in}
-use Rattle.cedar_world.specs.Worlds.{World, actions_in, all_namespaces, common_types_in, entity_types_in, uses_in}
+use Rattle.cedar_qualified.specs.of_world.DefinitionViews.{common_type_in, namespace_in}
+use Rattle.cedar_qualified.specs.of_world.Worlds.{World, actions_in, all_namespaces, common_types_in, entity_types_in, uses_in}
 
 -- the tables of these definitions, which are those that are held
 pub tables_held : (W : World) (all_defs : AllDefs) (ds : List Definition) (X : Extensions) → Holds W all_defs ds X → (given : List Definition) → given ≡ ds → (t : Tables)

@@ -8,7 +8,7 @@ use Rattle.cedar_declared.specs.Gathering.{declared_names, with_fragment}
 use Rattle.cedar_declared.specs.Held.{names_of}
 use Rattle.cedar_declared.specs.Names.{SameNames}
 use Rattle.cedar_declared.specs.declared.all_defs.AllDefs.{AllDefs}
-use Rattle.cedar_definitions.specs.Structures.{definitions_of}
+use Rattle.cedar_declared.specs.of_definitions.Structures.{definitions_of}
 use Rattle.cedar_names.specs.Extensions.{extension_words}
 use Rattle.cedar_names.specs.declared.extensions.Extensions.{Extensions}
 use Rattle.cedar_phases.specs.Holding.{Fragment, Holds, world_of}
@@ -17,11 +17,11 @@ use Rattle.cedar_qualified.specs.Agreeing.{AgreeingNames}
 use Rattle.cedar_qualified.proofs.AgreedNames.{names_agree}
 use Rattle.cedar_schema_error.specs.Told.{told}
 use Rattle.cedar_schema_error.specs.declared.schema_error.SchemaError.{SchemaError}
-use Rattle.cedar_shadowing.specs.Shadowing.{ShadowPasses, ShadowRefuses, shadow_phases}
+use Rattle.cedar_sound.specs.of_shadowing.Shadowing.{ShadowPasses, ShadowRefuses, shadow_phases}
 use Rattle.cedar_sound.specs.Sound.{Passes, RefusesAt, Shadowing}
 use Rattle.cedar_text.proofs.Members.{map-append}
-use Rattle.cedar_world.specs.DefinitionViews.{namespace_in}
-use Rattle.cedar_world.specs.Worlds.{World, all_namespaces, builtin_namespaces, names_in, own}
+use Rattle.cedar_qualified.specs.of_world.DefinitionViews.{namespace_in}
+use Rattle.cedar_qualified.specs.of_world.Worlds.{World, all_namespaces, builtin_namespaces, names_in, own}
 
 module _ (fragments : List Fragment) (extensions : Extensions) (own_defs : AllDefs) (gathered : SameNames (names_of own_defs) (declared_names (flat_map definitions_of fragments))) where
   abbrev W : World

@@ -12,9 +12,9 @@ use Rattle.cedar_phases.proofs.Chained.{chain_there, lookup_through, unchanged}
 use Rattle.cedar_schema_error.specs.FullNames.{FullName, Uid, uid_cmp}
 use Rattle.cedar_schema_error.specs.NameReferences.{ActionReference, NameReference}
 use Rattle.cedar_tables.specs.Outlines.{ActionParts, EntityParts, action_outline, action_parts, entity_outline, entity_parts}
-use Rattle.cedar_world.specs.Definitions.{parents_of}
-use Rattle.cedar_world.specs.Descents.{ActionDescendsFrom, ActionMember, DescendsFrom, Member}
-use Rattle.cedar_world.specs.Worlds.{World, actions, entity_types, names}
+use Rattle.cedar_qualified.specs.of_world.Definitions.{parents_of}
+use Rattle.cedar_qualified.specs.of_world.Descents.{ActionDescendsFrom, ActionMember, DescendsFrom, Member}
+use Rattle.cedar_qualified.specs.of_world.Worlds.{World, actions, entity_types, names}
 
 module _ (W : World) (a : Names) (same : target a ≡ target (names W)) (os : List (FullName × EntityParts)) (is : os ≡ map entity_outline (entity_types W)) where
   found_at : (n : FullName) → get words_cmp os n ≡ option_map entity_parts (get words_cmp (entity_types W) n)

@@ -9,9 +9,9 @@ use Rattle.cedar_schema_error.specs.FullNames.{FullName}
 use Rattle.cedar_sound.proofs.NothingMissed.{pass_append}
 use Rattle.cedar_unfold.specs.Faults.{attribute_faults_by, entity_fault, faults_by, of_target, open_fault, reserved_fault}
 use Rattle.cedar_unfold.specs.Written.{Written, WrittenAttributes, Boolean, Long, String, Extension, Set, Record, Entity, EntityOrCommon, CommonTypeRef, no_attributes, attribute}
-use Rattle.cedar_world.specs.Qualified.{Qualifies, QualifiesAt, QualifiesEach}
-use Rattle.cedar_world.specs.Qualified as q
-use Rattle.cedar_world.specs.Undeclared.{all_entity_references, attribute_entity_references, entity_references}
+use Rattle.cedar_qualified.specs.of_world.Qualified.{Qualifies, QualifiesAt, QualifiesEach}
+use Rattle.cedar_qualified.specs.of_world.Qualified as q
+use Rattle.cedar_qualified.specs.of_world.Undeclared.{all_entity_references, attribute_entity_references, entity_references}
 
 module _ {N : Type 0} (target : N → Option FullName) where
   mutual

@@ -51,10 +51,10 @@ use Rattle.cedar_unfold.specs.ResolvedViews.{is_open, resolved, resolved_map}
 use Rattle.cedar_unfold.specs.UnfoldPhases.{UnfoldsAt, UsePasses}
 use Rattle.cedar_unfold.specs.Unfolds.{Unfolds}
 use Rattle.cedar_unfold.specs.Written.{Written}
-use Rattle.cedar_world.specs.Definitions.{ActionDefinition, EntityDefinition, Enumerated, Standard}
-use Rattle.cedar_world.specs.Denotes.{AreTargets, DenotesAction, DenotesEntity, DenotesKind, DenotesTags}
-use Rattle.cedar_world.specs.Descents.{ActionDescendsFrom, DescendsFrom}
-use Rattle.cedar_world.specs.Worlds.{World, actions, all_namespaces, entity_types, job, meanings, names, uses}
+use Rattle.cedar_qualified.specs.of_world.Definitions.{ActionDefinition, EntityDefinition, Enumerated, Standard}
+use Rattle.cedar_qualified.specs.of_world.Denotes.{AreTargets, DenotesAction, DenotesEntity, DenotesKind, DenotesTags}
+use Rattle.cedar_qualified.specs.of_world.Descents.{ActionDescendsFrom, DescendsFrom}
+use Rattle.cedar_qualified.specs.of_world.Worlds.{World, actions, all_namespaces, entity_types, job, meanings, names, uses}
 
 same_inside : {A : Type 0} (x y : A) → Some x ≡ Some y → x ≡ y
 same_inside x y e = cc

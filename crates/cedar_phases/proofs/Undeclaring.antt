@@ -39,10 +39,10 @@ use Rattle.cedar_unfold.specs.Tables.{by_name}
 use Rattle.cedar_unfold.specs.UnfoldPhases.{Unfoldable, UsePasses}
 use Rattle.cedar_unfold.specs.Written.{Written}
 use Rattle.cedar_unfold.specs.WrittenViews.{written_type}
-use Rattle.cedar_world.specs.Definitions.{ActionDefinition, EntityDefinition, parents_of}
-use Rattle.cedar_world.specs.Qualified.{QualifiesJob}
-use Rattle.cedar_world.specs.Undeclared.{IsUndeclared, all_entity_references, applications, entity_parents, entity_references, references_to_entities}
-use Rattle.cedar_world.specs.Worlds.{World, actions, all_namespaces, common_types, entity_types, job, meanings, names, uses}
+use Rattle.cedar_qualified.specs.of_world.Definitions.{ActionDefinition, EntityDefinition, parents_of}
+use Rattle.cedar_qualified.specs.of_world.Qualified.{QualifiesJob}
+use Rattle.cedar_qualified.specs.of_world.Undeclared.{IsUndeclared, all_entity_references, applications, entity_parents, entity_references, references_to_entities}
+use Rattle.cedar_qualified.specs.of_world.Worlds.{World, actions, all_namespaces, common_types, entity_types, job, meanings, names, uses}
 use Rattle.cedar_written.specs.declared.ty.SchemaType.{SchemaType}
 
 -- the keys of types don't matter for the names in them

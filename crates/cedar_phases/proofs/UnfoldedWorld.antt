@@ -36,10 +36,10 @@ use Rattle.cedar_unfold.specs.Tables.{by_name}
 use Rattle.cedar_unfold.specs.UnfoldPhases.{IsUnfolded, Unfoldable, UsePasses, WhyNotUnfoldable, full_job}
 use Rattle.cedar_unfold.specs.Written.{Written, references}
 use Rattle.cedar_unfold.specs.WrittenViews.{written_type}
-use Rattle.cedar_world.specs.DefinitionViews.{common_type_in, type_in}
-use Rattle.cedar_world.specs.Missing.{first_alone, missing_in}
-use Rattle.cedar_world.specs.Qualified.{QualifiesAt, QualifiesJob}
-use Rattle.cedar_world.specs.Worlds.{World, all_namespaces, common_types, job, meanings, names, uses}
+use Rattle.cedar_qualified.specs.of_world.DefinitionViews.{common_type_in, type_in}
+use Rattle.cedar_qualified.specs.of_world.Missing.{first_alone, missing_in}
+use Rattle.cedar_qualified.specs.of_world.Qualified.{QualifiesAt, QualifiesJob}
+use Rattle.cedar_qualified.specs.of_world.Worlds.{World, all_namespaces, common_types, job, meanings, names, uses}
 use Rattle.cedar_written.specs.Answers.{all_values}
 use Rattle.cedar_written.specs.Through.{through_type}
 use Rattle.cedar_written.specs.declared.conditional_name.ConditionalName.{ConditionalName}

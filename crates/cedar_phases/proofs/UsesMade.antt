@@ -28,7 +28,7 @@ use Rattle.cedar_unfold.specs.UnfoldPhases.{Fits, UnfoldsAt, UsePasses}
 use Rattle.cedar_unfold.specs.Unfolds.{Unfolds}
 use Rattle.cedar_unfold.specs.Written.{Written}
 use Rattle.cedar_unfold.proofs.OneUnfolding.{one_type}
-use Rattle.cedar_world.specs.Worlds.{World, job, meanings, uses}
+use Rattle.cedar_qualified.specs.of_world.Worlds.{World, job, meanings, uses}
 
 -- places are one where what is told of them is
 told_alike : (p q : code.UsePlace) → same_place (told_use p) (told_use q) ≡ is_at (use_cmp p) q

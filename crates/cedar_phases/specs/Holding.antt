@@ -4,14 +4,14 @@ use Rattle.std.specs.Prelude.{◌≡◌, List, [], ◌∷◌, map}
 use Rattle.std.specs.List.{AllZip, flat_map}
 use Rattle.cedar_declared.specs.Held.{names_of}
 use Rattle.cedar_declared.specs.declared.all_defs.AllDefs.{AllDefs}
-use Rattle.cedar_definitions.specs.Structures.{definitions_of}
-use Rattle.cedar_definitions.specs.declared.structures.ValidatorNamespaceDef.{ValidatorNamespaceDef}
-use Rattle.cedar_definitions.specs.declared.structures.ValidatorSchemaFragment.{ValidatorSchemaFragment}
+use Rattle.cedar_declared.specs.of_definitions.Structures.{definitions_of}
+use Rattle.cedar_declared.specs.of_definitions.declared.structures.ValidatorNamespaceDef.{ValidatorNamespaceDef}
+use Rattle.cedar_declared.specs.of_definitions.declared.structures.ValidatorSchemaFragment.{ValidatorSchemaFragment}
 use Rattle.cedar_fragment.specs.ActionUids.{over_conditional}
 use Rattle.cedar_names.specs.Extensions.{extension_words}
 use Rattle.cedar_names.specs.declared.extensions.Extensions.{Extensions}
 use Rattle.cedar_qualified.specs.Agreeing.{AgreeingNames}
-use Rattle.cedar_world.specs.DefinitionViews.{namespace_in}
+use Rattle.cedar_qualified.specs.of_world.DefinitionViews.{namespace_in}
 use Rattle.cedar_data.specs.Firsts.{AllPass, FirstRefused}
 use Rattle.cedar_schema_error.specs.NameReferences.{NameReference}
 use Rattle.cedar_schema_error.specs.Refusals.{Refusal}
@@ -33,10 +33,10 @@ use Rattle.cedar_unfold.specs.ResolvedViews.{resolved}
 use Rattle.cedar_unfold.specs.Tables.{by_name}
 use Rattle.cedar_unfold.specs.UnfoldPhases.{UnfoldsAt}
 use Rattle.cedar_unfold.specs.WrittenViews.{written_type}
-use Rattle.cedar_world.specs.DefinitionViews.{common_type_in}
-use Rattle.cedar_world.specs.Qualified.{QualifiesJob}
+use Rattle.cedar_qualified.specs.of_world.DefinitionViews.{common_type_in}
+use Rattle.cedar_qualified.specs.of_world.Qualified.{QualifiesJob}
 use Rattle.cedar_written.specs.declared.ty.SchemaType.{SchemaType}
-use Rattle.cedar_world.specs.Worlds.{World, actions, all_namespaces, common_types, entity_types, job, names, uses}
+use Rattle.cedar_qualified.specs.of_world.Worlds.{World, actions, all_namespaces, common_types, entity_types, job, names, uses}
 use Rattle.cedar_written.specs.declared.conditional_name.ConditionalName.{ConditionalName}
 
 -- definitions whose references carry the names that they may stand for

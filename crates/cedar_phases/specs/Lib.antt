@@ -1,4 +1,8 @@
 -- SPDX-License-Identifier: Apache-2.0
+pub mod of_sound
+pub mod of_resolved
+pub mod of_qualified
+pub mod of_duplicates
 pub use Rattle.cedar_sound.specs.Sound
 pub mod Holding
 pub mod SchemaViews

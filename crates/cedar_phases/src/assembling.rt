@@ -12,18 +12,17 @@ ghost use Rattle.cedar_schema_error.specs.FullNames.{FullName};
 ghost use Rattle.cedar_schema_error.specs.Told.{told};
 ghost use Rattle.cedar_tables.specs.Outlines.{entity_outline_in};
 ghost use Rattle.cedar_undeclared.specs.Undeclared.{is_free, undeclared_refusal};
-ghost use Rattle.cedar_world.specs.Denotes.{Denotes};
-ghost use Rattle.cedar_world.specs.Worlds.{World};
+ghost use Rattle.cedar_qualified.specs.of_world.Denotes.{Denotes};
+ghost use Rattle.cedar_qualified.specs.of_world.Worlds.{World};
 
 use crate::memberships::membership_names;
 use crate::unfolding::{FullTypes, UnfoldedTypes};
 use cedar_data::{Failure, Map, Out};
 use cedar_declared::AllDefs;
-use cedar_hierarchy::{resolved_actions, resolved_entity_types};
+use cedar_hierarchy::{ActionOutline, EntityOutline, resolved_actions, resolved_entity_types};
 use cedar_names::{EntityType, EntityUID, InternalName};
 use cedar_resolved::{ValidatorActionId, ValidatorSchema};
 use cedar_schema_error::SchemaError;
-use cedar_tables::{ActionOutline, EntityOutline};
 use cedar_undeclared::{undeclared_error, undeclared_names};
 use std::alloc::Global;
 

@@ -2,19 +2,19 @@
 ghost use Rattle.std.specs.Prelude.{◌≡◌, None, Some, IfOk};
 ghost use Rattle.cedar_data.specs.Answers.{IfRefused};
 ghost use Rattle.cedar_declared.specs.Held.{names_of};
-ghost use Rattle.cedar_definitions.specs.Structures.{definitions_of};
-ghost use Rattle.cedar_missing.specs.Undeclared.{missing_in_definition, missing_in_each, refusal_of};
+ghost use Rattle.cedar_declared.specs.of_definitions.Structures.{definitions_of};
+ghost use Rattle.cedar_qualified.specs.of_missing.Undeclared.{missing_in_definition, missing_in_each, refusal_of};
 ghost use Rattle.cedar_names.specs.declared.extensions.Extensions.{Extensions};
 ghost use Rattle.cedar_phases.specs.Holding.{AllPassed, Holds, OneRefuses, early_phases};
 ghost use Rattle.cedar_schema_error.specs.Told.{told};
-ghost use Rattle.cedar_world.specs.Worlds.{World};
+ghost use Rattle.cedar_qualified.specs.of_world.Worlds.{World};
 
 use crate::declaring::Fragment;
 use cedar_data::{Failure, Out};
 use cedar_declared::AllDefs;
-use cedar_duplicates::refuse_duplicates;
-use cedar_missing::HasReferences;
+use cedar_qualified::HasReferences;
 use cedar_schema_error::SchemaError;
+use cedar_sound::refuse_duplicates;
 use std::alloc::Global;
 
 /// Refused with the references of definitions that mean nothing declared; where there are none, with the first name

@@ -5,19 +5,17 @@ ghost use Rattle.cedar_data.specs.Answers.{IfRefused};
 ghost use Rattle.cedar_declared.specs.Gathering.{declared_names};
 ghost use Rattle.cedar_declared.specs.Held.{names_of};
 ghost use Rattle.cedar_declared.specs.Names.{SameNames};
-ghost use Rattle.cedar_definitions.specs.Structures.{definitions_of};
+ghost use Rattle.cedar_declared.specs.of_definitions.Structures.{definitions_of};
 ghost use Rattle.cedar_phases.specs.Holding.{Holds, world_of};
 ghost use Rattle.cedar_schema_error.specs.Told.{told};
 ghost use Rattle.cedar_sound.specs.Sound.{Passes, RefusesAt, Shadowing};
 
 use cedar_data::{Mem, Out};
-use cedar_declared::AllDefs;
-use cedar_definitions::{ValidatorNamespaceDef, ValidatorSchemaFragment};
-use cedar_fragment::ConditionalName;
+use cedar_declared::{AllDefs, ValidatorNamespaceDef, ValidatorSchemaFragment};
 use cedar_names::Extensions;
-use cedar_schema_error::SchemaError;
-use cedar_shadowing::ShadowingChecks;
-use cedar_world::builtin_definitions;
+use cedar_qualified::builtin_definitions;
+use cedar_schema_error::{ConditionalName, SchemaError};
+use cedar_sound::ShadowingChecks;
 use std::alloc::Global;
 
 /// The definition of a namespace.

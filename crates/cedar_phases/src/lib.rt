@@ -9,4 +9,5 @@ mod memberships;
 mod resolving;
 mod unfolding;
 
+pub use cedar_resolved::ValidatorSchema;
 pub use resolving::FromSchemaFragments;

@@ -9,10 +9,9 @@ ghost use Rattle.cedar_tables.specs.Outlines.{action_outline_in, entity_outline_
 
 use cedar_data::{Dup, Map, Mem, Set};
 use cedar_declared::AllDefs;
-use cedar_fragment::{ConditionalName, ReferenceType};
-use cedar_hierarchy::find_target;
+use cedar_hierarchy::{ActionOutline, EntityOutline, find_target};
 use cedar_names::{EntityType, EntityUID, InternalName};
-use cedar_tables::{ActionOutline, EntityOutline};
+use cedar_schema_error::{ConditionalName, ReferenceType};
 use std::alloc::Global;
 
 /// Puts the name that a reference means behind the others, if it means one that is no declared entity type.

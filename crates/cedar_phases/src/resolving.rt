@@ -1,26 +1,24 @@
 // SPDX-License-Identifier: Apache-2.0
 ghost use Rattle.std.specs.Prelude.{◌++◌, IfOk, List};
 ghost use Rattle.cedar_data.specs.Answers.{IfRefused};
-ghost use Rattle.cedar_definitions.specs.Structures.{definitions_of};
+ghost use Rattle.cedar_declared.specs.of_definitions.Structures.{definitions_of};
 ghost use Rattle.cedar_phases.specs.Holding.{AllPassed, AreTables, Definition, Holds, OneRefuses, early_phases, later_phases, world_of};
 ghost use Rattle.cedar_phases.specs.SchemaViews.{IsNamed, schema_in};
 ghost use Rattle.cedar_schema_error.specs.Told.{told};
 ghost use Rattle.cedar_sound.specs.Sound.{Cause, Passes, References, Sound};
-ghost use Rattle.cedar_world.specs.Denotes.{Denotes};
-ghost use Rattle.cedar_world.specs.Worlds.{World};
+ghost use Rattle.cedar_qualified.specs.of_world.Denotes.{Denotes};
+ghost use Rattle.cedar_qualified.specs.of_world.Worlds.{World};
 
 use crate::assembling::assemble;
 use crate::checking::check_definitions;
 use crate::declaring::{Declarations, Fragment, declare};
 use crate::unfolding::unfolded_types;
 use cedar_data::Out;
-use cedar_declared::AllDefs;
-use cedar_definitions::ValidatorSchemaFragment;
-use cedar_fragment::ConditionalName;
+use cedar_declared::{AllDefs, ValidatorSchemaFragment};
+use cedar_hierarchy::{Tables, tables_of};
 use cedar_names::Extensions;
 use cedar_resolved::ValidatorSchema;
-use cedar_schema_error::SchemaError;
-use cedar_tables::{Tables, tables_of};
+use cedar_schema_error::{ConditionalName, SchemaError};
 use std::alloc::Global;
 
 /// What definitions of namespaces resolve to.

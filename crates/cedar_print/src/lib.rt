@@ -7,5 +7,9 @@ mod lists;
 mod quoted;
 
 pub use annotations::write_annotations;
+pub use cedar_names::{
+    Annotations, Boxed, Dup, Failure, Id, InternalName, Items, Loc, Map, Mem, Name, NameFault,
+    Namespace, NoMemory, NonEmpty, NonEmptyIter, Out, Span, Text, UnreservedId,
+};
 pub use lists::{write_item, write_list, write_quoted_list};
 pub use quoted::Quoted;

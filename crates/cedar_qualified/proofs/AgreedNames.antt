@@ -11,12 +11,12 @@ use Rattle.std.specs.declared.cmp.Ordering.{Ordering}
 use Rattle.std.specs.declared.cmp.Ordering.TheVariants.{Less, Equal, Greater}
 use Rattle.cedar_data.specs.Firsts.{AllPass}
 use Rattle.cedar_data.specs.Sets.{contains}
-use Rattle.cedar_declared.specs.Gathering.{declared_names}
-use Rattle.cedar_declared.specs.Held.{names_of, single_names, type_names}
-use Rattle.cedar_declared.specs.Names.{SameNames}
-use Rattle.cedar_declared.specs.declared.all_defs.AllDefs.{AllDefs}
-use Rattle.cedar_declared.specs.declared.type_names.TypeNames.{TypeNames}
-use Rattle.cedar_definitions.specs.declared.structures.ValidatorNamespaceDef.{ValidatorNamespaceDef}
+use Rattle.cedar_missing.specs.of_declared.Gathering.{declared_names}
+use Rattle.cedar_missing.specs.of_declared.Held.{names_of, single_names, type_names}
+use Rattle.cedar_missing.specs.of_declared.Names.{SameNames}
+use Rattle.cedar_missing.specs.of_declared.declared.all_defs.AllDefs.{AllDefs}
+use Rattle.cedar_missing.specs.of_declared.declared.type_names.TypeNames.{TypeNames}
+use Rattle.cedar_missing.specs.of_definitions.declared.structures.ValidatorNamespaceDef.{ValidatorNamespaceDef}
 use Rattle.cedar_fragment.specs.ActionUids.{over_conditional}
 use Rattle.cedar_names.proofs.NameOrder.{words_cmp-equal}
 use Rattle.cedar_names.specs.Components.{components, internal_name}

@@ -5,10 +5,10 @@ use Rattle.std.specs.List.{AllZip}
 use Rattle.std.specs.BTreeMap.{is_at}
 use Rattle.cedar_names.specs.Order.{words_cmp}
 use Rattle.cedar_schema_error.specs.FullNames.{FullName}
-use Rattle.cedar_unfold.specs.Meanings.{Meanings, definition_of, full_meanings}
-use Rattle.cedar_unfold.specs.Resolved.{Resolved, ResolvedAttributes}
-use Rattle.cedar_unfold.specs.Unfolds.{Unfolds, UnfoldsEach, boolean, long, string, extension, set, closed, entity, common, either_common, either_entity, none, each}
-use Rattle.cedar_unfold.specs.Written.{Written, WrittenAttributes}
+use Rattle.cedar_world.specs.of_unfold.Meanings.{Meanings, definition_of, full_meanings}
+use Rattle.cedar_world.specs.of_unfold.Resolved.{Resolved, ResolvedAttributes}
+use Rattle.cedar_world.specs.of_unfold.Unfolds.{Unfolds, UnfoldsEach, boolean, long, string, extension, set, closed, entity, common, either_common, either_entity, none, each}
+use Rattle.cedar_world.specs.of_unfold.Written.{Written, WrittenAttributes}
 use Rattle.cedar_world.specs.Qualified.{Qualifies, QualifiesEach, QualifiesAt}
 use Rattle.cedar_world.specs.Qualified as q
 use Rattle.cedar_qualified.proofs.AlikeLookups.{BothOrNeither, back_by, none_back, none_there, same_lookups, there_by}

@@ -2,16 +2,16 @@
 -- A job and the one over full names pass and are refused alike.
 use Rattle.std.proofs.Common.{◌≡◌, ◌++◌, List, [], ◌∷◌, Some, refl, inl, inr, sym, ap, ◌∙◌, subst}
 use Rattle.std.specs.List.{AllZip}
-use Rattle.cedar_closure.specs.Chains.{Reaches, one, more}
+use Rattle.cedar_schema_error.specs.of_closure.Chains.{Reaches, one, more}
 use Rattle.cedar_data.specs.Firsts.{IsFirst}
 use Rattle.cedar_schema_error.specs.FullNames.{FullName}
 use Rattle.cedar_schema_error.specs.Refusals.{Refusal, UsePlace, CommonType, Place, TooDeep, ContextOrShapeNotRecord}
-use Rattle.cedar_unfold.specs.Faults.{faults, attribute_faults, of_target, entity_fault, either_fault, common_fault, open_fault}
-use Rattle.cedar_unfold.specs.Meanings.{Meanings, definition_of, full_meanings, is_common}
-use Rattle.cedar_unfold.specs.Resolved.{Resolved}
-use Rattle.cedar_unfold.specs.UnfoldPhases.{Refers, UnfoldsWithin, UnfoldsPast, UsePasses, UseRefuses, Job, IsCircular, Fits, Unfoldable, WhyNotUnfoldable, UnfoldsAt, IsUnfolded, UnfoldPhase, UnfoldPasses, UnfoldRefuses, unfold_phases, full_job, CommonCycles, CommonFaults, CommonDepths, Uses}
-use Rattle.cedar_unfold.specs.Unfolds.{Unfolds}
-use Rattle.cedar_unfold.specs.Written.{Written, WrittenAttributes, common_references, attribute_common_references}
+use Rattle.cedar_world.specs.of_unfold.Faults.{faults, attribute_faults, of_target, entity_fault, either_fault, common_fault, open_fault}
+use Rattle.cedar_world.specs.of_unfold.Meanings.{Meanings, definition_of, full_meanings, is_common}
+use Rattle.cedar_world.specs.of_unfold.Resolved.{Resolved}
+use Rattle.cedar_world.specs.of_unfold.UnfoldPhases.{Refers, UnfoldsWithin, UnfoldsPast, UsePasses, UseRefuses, Job, IsCircular, Fits, Unfoldable, WhyNotUnfoldable, UnfoldsAt, IsUnfolded, UnfoldPhase, UnfoldPasses, UnfoldRefuses, unfold_phases, full_job, CommonCycles, CommonFaults, CommonDepths, Uses}
+use Rattle.cedar_world.specs.of_unfold.Unfolds.{Unfolds}
+use Rattle.cedar_world.specs.of_unfold.Written.{Written, WrittenAttributes, common_references, attribute_common_references}
 use Rattle.cedar_world.specs.Qualified.{Qualifies, QualifiesEach, QualifiesAt, QualifiesJob}
 use Rattle.cedar_world.specs.Qualified as q
 use Rattle.cedar_qualified.proofs.AlikeLists.{AllZip-append, AllZip-flip, all_pass_alike, first_refused_alike, some_passes_alike, turned}

@@ -4,8 +4,8 @@ use Rattle.std.proofs.Common.{◌≡◌, ◌++◌, List, [], map, refl, sym, ap,
 use Rattle.std.proofs.lemmas.List.{map-append}
 use Rattle.std.proofs.lemmas.List.Elements.{filter-append}
 use Rattle.std.specs.List.{filter, flat_map}
-use Rattle.cedar_declared.specs.Names.{Names, undefined_actions}
-use Rattle.cedar_definitions.specs.declared.structures.ValidatorNamespaceDef.{ValidatorNamespaceDef}
+use Rattle.cedar_missing.specs.of_declared.Names.{Names, undefined_actions}
+use Rattle.cedar_missing.specs.of_definitions.declared.structures.ValidatorNamespaceDef.{ValidatorNamespaceDef}
 use Rattle.cedar_fragment.specs.ActionUids.{over_conditional}
 use Rattle.cedar_missing.specs.Undeclared.{Parent, missing_in_common, missing_in_definition, missing_in_each, missing_in_values}
 use Rattle.cedar_missing.specs.Undeclared as code

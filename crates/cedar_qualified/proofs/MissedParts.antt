@@ -5,12 +5,12 @@ use Rattle.std.proofs.lemmas.List.{map-append}
 use Rattle.std.proofs.lemmas.List.Elements.{filter-append, filter_map-append}
 use Rattle.std.specs.List.{cons_option, filter, filter_map, find, flat_map}
 use Rattle.std.specs.Option.{option_map_or}
-use Rattle.cedar_declared.proofs.FoundTargets.{action_found, type_found}
-use Rattle.cedar_declared.specs.Names.{Names, action_target, is_declared, target, targets, undefined, undefined_actions}
-use Rattle.cedar_declared.specs.Targets.{action_at, found, found_action, parent_type}
-use Rattle.cedar_definitions.specs.declared.structures.ActionFragment.{ActionFragment}
-use Rattle.cedar_definitions.specs.declared.structures.EntityTypeFragment.{EntityTypeFragment}
-use Rattle.cedar_definitions.specs.declared.structures.EntityTypeFragment.TheVariants.{Standard, Enum}
+use Rattle.cedar_missing.proofs.of_declared.FoundTargets.{action_found, type_found}
+use Rattle.cedar_missing.specs.of_declared.Names.{Names, action_target, is_declared, target, targets, undefined, undefined_actions}
+use Rattle.cedar_missing.specs.of_declared.Targets.{action_at, found, found_action, parent_type}
+use Rattle.cedar_missing.specs.of_definitions.declared.structures.ActionFragment.{ActionFragment}
+use Rattle.cedar_missing.specs.of_definitions.declared.structures.EntityTypeFragment.{EntityTypeFragment}
+use Rattle.cedar_missing.specs.of_definitions.declared.structures.EntityTypeFragment.TheVariants.{Standard, Enum}
 use Rattle.cedar_fragment.specs.ActionUids.{over_conditional, type_in}
 use Rattle.cedar_missing.specs.Undeclared.{Parent, found_parent, is_undefined, missing_by, missing_in_name, missing_in_parent, missing_in_type, missing_parts, name_at, no_action, no_type, reserved_alone}
 use Rattle.cedar_missing.specs.Undeclared as code
@@ -18,7 +18,7 @@ use Rattle.cedar_names.specs.Components.{components, has_cedar}
 use Rattle.cedar_names.specs.declared.internal_name.InternalName.{InternalName}
 use Rattle.cedar_schema_error.specs.FullNames.{FullName, Uid}
 use Rattle.cedar_schema_error.specs.NameReferences.{ActionReference, NameReference, action_reference_of, no_reference, reference_of}
-use Rattle.cedar_unfold.specs.Written.{Written}
+use Rattle.cedar_world.specs.of_unfold.Written.{Written}
 use Rattle.cedar_world.specs.DefinitionViews.{action_of, kind_in}
 use Rattle.cedar_world.specs.DefinitionViews as views
 use Rattle.cedar_world.specs.Definitions.{tags_of}

@@ -5,9 +5,9 @@ use Rattle.std.proofs.lemmas.List.Elements.{filter-append}
 use Rattle.std.specs.List.{AllByRecursion, flat_map}
 use Rattle.std.specs.declared.result.Result.TheVariants.{Err}
 use Rattle.cedar_data.specs.Maps.{map_values}
-use Rattle.cedar_declared.proofs.FoundTargets.{type_found}
-use Rattle.cedar_declared.specs.Names.{Names, target, undefined}
-use Rattle.cedar_declared.specs.Targets.{found, or_refused, resolving}
+use Rattle.cedar_missing.proofs.of_declared.FoundTargets.{type_found}
+use Rattle.cedar_missing.specs.of_declared.Names.{Names, target, undefined}
+use Rattle.cedar_missing.specs.of_declared.Targets.{found, or_refused, resolving}
 use Rattle.cedar_names.specs.Components.{components}
 use Rattle.cedar_names.specs.declared.annotation.Annotations.{Annotations}
 use Rattle.cedar_names.specs.declared.internal_name.InternalName.{InternalName}
@@ -16,9 +16,9 @@ use Rattle.cedar_schema_error.specs.NameReferences.{NameReference, reference_of}
 use Rattle.cedar_schema_error.specs.declared.schema_error.SchemaError.{SchemaError}
 use Rattle.cedar_schema_error.specs.declared.schema_error.SchemaError.TheVariants.{TypeNotDefined}
 use Rattle.cedar_text.specs.declared.location.Loc.{Loc}
-use Rattle.cedar_unfold.proofs.SchemaTypes.{is_common, type_is, variant_either, variant_entity, variant_set}
-use Rattle.cedar_unfold.specs.Written.{Written, WrittenAttributes, attribute_references, references}
-use Rattle.cedar_unfold.specs.WrittenViews.{written_attribute, written_attributes, written_record, written_type, written_variant}
+use Rattle.cedar_world.proofs.of_unfold.SchemaTypes.{is_common, type_is, variant_either, variant_entity, variant_set}
+use Rattle.cedar_world.specs.of_unfold.Written.{Written, WrittenAttributes, attribute_references, references}
+use Rattle.cedar_world.specs.of_unfold.WrittenViews.{written_attribute, written_attributes, written_record, written_type, written_variant}
 use Rattle.cedar_world.specs.DefinitionViews.{type_in}
 use Rattle.cedar_world.specs.Missing.{first_alone, missing_in}
 use Rattle.cedar_written.proofs.ThroughEquations.{through-Boolean, through-CommonTypeRef, through-Entity, through-EntityOrCommon, through-Extension, through-Long, through-Record, through-Set, through-String, through-Variant, through-attribute_of, through-record_of}

@@ -6,10 +6,10 @@ use Rattle.std.specs.List.{AllByRecursion, flat_map}
 use Rattle.cedar_data.specs.Maps.{map_values}
 use Rattle.cedar_missing.specs.Undeclared.{name_at}
 use Rattle.cedar_schema_error.specs.NameReferences.{NameReference, reference_of}
-use Rattle.cedar_unfold.proofs.SchemaTypes.{is_common, type_is, variant_boolean, variant_either, variant_entity, variant_extension, variant_long, variant_set, variant_string}
-use Rattle.cedar_unfold.specs.Written.{Written, attribute_references}
-use Rattle.cedar_unfold.specs.Written as written
-use Rattle.cedar_unfold.specs.WrittenViews.{written_attribute, written_attributes, written_record, written_type, written_variant}
+use Rattle.cedar_world.proofs.of_unfold.SchemaTypes.{is_common, type_is, variant_boolean, variant_either, variant_entity, variant_extension, variant_long, variant_set, variant_string}
+use Rattle.cedar_world.specs.of_unfold.Written.{Written, attribute_references}
+use Rattle.cedar_world.specs.of_unfold.Written as written
+use Rattle.cedar_world.specs.of_unfold.WrittenViews.{written_attribute, written_attributes, written_record, written_type, written_variant}
 use Rattle.cedar_written.proofs.TypeFolds.{fold-Boolean, fold-CommonTypeRef, fold-Entity, fold-EntityOrCommon, fold-Extension, fold-Long, fold-Record, fold-Set, fold-String, fold-Variant, fold-attribute_of, fold-record_of}
 use Rattle.cedar_written.proofs.TypeInduction.{by_cases}
 use Rattle.cedar_written.specs.References.{Refs, attribute_refs, record_refs, references, references_of_attribute, references_of_record, references_of_variant, type_refs, variant_refs}

@@ -4,9 +4,9 @@ use Rattle.std.proofs.Common.{◌≡◌, ℕ, Bool, List, [], ◌∷◌, map, Op
 use Rattle.std.specs.List.{AllByRecursion, AllZip}
 use Rattle.std.specs.declared.result.Result.TheVariants.{Ok}
 use Rattle.cedar_data.specs.Maps.{map_values}
-use Rattle.cedar_declared.proofs.FoundTargets.{type_found}
-use Rattle.cedar_declared.specs.Names.{Names, target}
-use Rattle.cedar_declared.specs.Targets.{found, or_refused, resolving}
+use Rattle.cedar_missing.proofs.of_declared.FoundTargets.{type_found}
+use Rattle.cedar_missing.specs.of_declared.Names.{Names, target}
+use Rattle.cedar_missing.specs.of_declared.Targets.{found, or_refused, resolving}
 use Rattle.cedar_names.specs.Components.{components}
 use Rattle.cedar_names.specs.declared.annotation.Annotations.{Annotations}
 use Rattle.cedar_names.specs.declared.id.UnreservedId.{UnreservedId}
@@ -16,9 +16,9 @@ use Rattle.cedar_schema_error.specs.NameReferences.{NameReference, reference_of}
 use Rattle.cedar_schema_error.specs.declared.schema_error.SchemaError.{SchemaError}
 use Rattle.cedar_schema_error.specs.declared.schema_error.SchemaError.TheVariants.{TypeNotDefined}
 use Rattle.cedar_text.specs.declared.location.Loc.{Loc}
-use Rattle.cedar_unfold.proofs.SchemaTypes.{is_common, type_is, variant_boolean, variant_either, variant_entity, variant_extension, variant_long, variant_set, variant_string}
-use Rattle.cedar_unfold.specs.Written.{Written, WrittenAttributes, attribute, no_attributes}
-use Rattle.cedar_unfold.specs.WrittenViews.{attribute_view, record_view, type_view, variant_view, written_attribute, written_attributes, written_record, written_type, written_variant}
+use Rattle.cedar_world.proofs.of_unfold.SchemaTypes.{is_common, type_is, variant_boolean, variant_either, variant_entity, variant_extension, variant_long, variant_set, variant_string}
+use Rattle.cedar_world.specs.of_unfold.Written.{Written, WrittenAttributes, attribute, no_attributes}
+use Rattle.cedar_world.specs.of_unfold.WrittenViews.{attribute_view, record_view, type_view, variant_view, written_attribute, written_attributes, written_record, written_type, written_variant}
 use Rattle.cedar_world.specs.DefinitionViews.{type_in}
 use Rattle.cedar_world.specs.Qualified.{Qualifies, QualifiesAt, QualifiesEach, boolean, common, each, either, entity, extension, long, none, record_of, set, string}
 use Rattle.cedar_written.proofs.ThroughEquations.{through-Boolean, through-CommonTypeRef, through-Entity, through-EntityOrCommon, through-Extension, through-Long, through-Record, through-Set, through-String, through-Variant, through-attribute_of, through-record_of}

@@ -1,7 +1,7 @@
 -- SPDX-License-Identifier: Apache-2.0
 -- Names that are declared alike.
 use Rattle.std.specs.Prelude.{◌≡◌}
-use Rattle.cedar_declared.specs.Names.{Names, is_action, is_common, is_entity}
+use Rattle.cedar_missing.specs.of_declared.Names.{Names, is_action, is_common, is_entity}
 use Rattle.cedar_schema_error.specs.FullNames.{FullName, Uid}
 
 -- the same names are declared, of each kind

@@ -4,4 +4,6 @@
 
 mod laws;
 
+pub use cedar_missing::HasReferences;
+pub use cedar_world::builtin_definitions;
 pub use laws::{agreeing_names, full_jobs, missing_is, walked_types};

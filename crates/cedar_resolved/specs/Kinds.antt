@@ -4,7 +4,7 @@ use Rattle.std.specs.Prelude.{List, Option, None, ℕ}
 use Rattle.cedar_resolved.specs.declared.kind.StandardValidatorEntityType.{StandardValidatorEntityType}
 use Rattle.cedar_resolved.specs.declared.kind.ValidatorEntityTypeKind.{ValidatorEntityTypeKind}
 use Rattle.cedar_resolved.specs.declared.kind.ValidatorEntityTypeKind.TheVariants.{Enum, Standard}
-use Rattle.cedar_text.specs.declared.non_empty.NonEmpty.{NonEmpty}
+use Rattle.cedar_names.specs.of_text.declared.non_empty.NonEmpty.{NonEmpty}
 use Rattle.cedar_types.specs.declared.ty.OpenTag.{OpenTag}
 use Rattle.cedar_types.specs.declared.ty.OpenTag.TheVariants.{ClosedAttributes}
 use Rattle.cedar_types.specs.declared.ty.ResolvedType.{ResolvedType}

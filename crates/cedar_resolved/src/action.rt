@@ -8,11 +8,9 @@ ghost use Rattle.cedar_resolved.specs.Schemas.{action_attribute_types, action_at
 ghost use Rattle.cedar_types.specs.Values.{members};
 
 use crate::sets::three_sets;
-use cedar_closure::TcNode;
 use cedar_data::{Dup, Mem, Set, SetIter, dup_four};
-use cedar_names::{EntityType, EntityUID};
-use cedar_text::Loc;
-use cedar_types::{Attributes, Type, ValueMap, ValueMapIter};
+use cedar_names::{EntityType, EntityUID, Loc};
+use cedar_types::{Attributes, TcNode, Type, ValueMap, ValueMapIter};
 use std::alloc::Global;
 
 /// An action of a schema.

@@ -10,11 +10,9 @@ ghost use Rattle.cedar_resolved.specs.Schemas.{no_attributes, type_attributes, t
 
 use crate::kind::{StandardValidatorEntityType, ValidatorEntityTypeKind};
 use crate::sets::set_of;
-use cedar_closure::TcNode;
 use cedar_data::{Dup, Map, Mem, Set, SetIter, Text, dup_three, dup_two};
-use cedar_names::EntityType;
-use cedar_text::{Loc, NonEmpty};
-use cedar_types::{AttributeType, Attributes, OpenTag, Type};
+use cedar_names::{EntityType, Loc, NonEmpty};
+use cedar_types::{AttributeType, Attributes, OpenTag, TcNode, Type};
 use std::alloc::Global;
 
 /// An entity type of a schema.

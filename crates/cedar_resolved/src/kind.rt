@@ -4,7 +4,7 @@ ghost use Rattle.std.specs.Option.{option_copied};
 ghost use Rattle.cedar_resolved.specs.Kinds.{standard_open, standard_tags};
 
 use cedar_data::{Dup, Mem, Text};
-use cedar_text::NonEmpty;
+use cedar_names::NonEmpty;
 use cedar_types::{OpenTag, Type};
 use std::alloc::Global;
 

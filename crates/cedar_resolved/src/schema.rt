@@ -7,9 +7,9 @@ ghost use Rattle.cedar_resolved.specs.Schemas.{action_entry, action_types, type_
 
 use crate::action::ValidatorActionId;
 use crate::entity_type::ValidatorEntityType;
-use cedar_closure::{TcKey, TcNode};
 use cedar_data::{Dup, Map, MapKeys, MapValues, Mem, dup_two};
 use cedar_names::{EntityType, EntityUID};
+use cedar_types::{TcKey, TcNode};
 use std::alloc::Global;
 
 /// A resolved schema.

@@ -1,9 +1,9 @@
 -- SPDX-License-Identifier: Apache-2.0
 -- From the fragment that a text declares to the schema that the text denotes.
 use Rattle.std.proofs.Common.{◌≡◌, ℕ, List, Result, Ok, Err, IfOk, sym, subst}
-use Rattle.cedar_convert_fragment.specs.Fragments.{Fragment}
-use Rattle.cedar_convert_text.specs.Texts.{DeclaresText}
-use Rattle.cedar_convert_warnings.specs.declared.warnings.SchemaWarning.{SchemaWarning}
+use Rattle.cedar_fragment_world.specs.of_convert_fragment.Fragments.{Fragment}
+use Rattle.cedar_schema_errors.specs.of_convert_text.Texts.{DeclaresText}
+use Rattle.cedar_schema_errors.specs.of_convert_warnings.declared.warnings.SchemaWarning.{SchemaWarning}
 use Rattle.cedar_data.specs.Answers.{Accepts, IfRefused}
 use Rattle.cedar_data.specs.declared.memory.Failure.{Failure}
 use Rattle.cedar_data.specs.declared.memory.Failure.TheVariants.{Refused, NoMemory}
@@ -15,8 +15,8 @@ use Rattle.cedar_schema.specs.Texts.{DenotesSchema, IsWellFormed, ParsingCause, 
 use Rattle.cedar_schema_error.specs.declared.action_behavior.ActionBehavior.TheVariants.{ProhibitAttributes}
 use Rattle.cedar_schema_errors.specs.declared.schema_error.CedarSchemaError.{CedarSchemaError}
 use Rattle.cedar_schema_errors.specs.declared.schema_error.CedarSchemaError.TheVariants.{Parsing, Schema}
-use Rattle.cedar_world.specs.Denotes.{Denotes}
-use Rattle.cedar_world.specs.Schemas as schemas
+use Rattle.cedar_fragment_world.specs.of_world.Denotes.{Denotes}
+use Rattle.cedar_fragment_world.specs.of_world.Schemas as schemas
 
 -- an answer gives a schema and warnings, however it holds them
 module _ {M : Type 0} (seen : M → schemas.Schema) (given : M → List SchemaWarning) (text : List ℕ) (extensions : List (List ℕ)) where

@@ -2,24 +2,24 @@
 -- A text declares one fragment at most, and none where an error says why it declares none.
 use Rattle.std.proofs.Common.{◌≡◌, inl, inr, ℕ, List, [], ◌∷◌, ◌++◌, ap, sym, ◌∙◌, subst, append_assoc}
 use Rattle.std.proofs.lemmas.List.{append-nil}
-use Rattle.cedar_convert_faults.proofs.DeclarationLaws.{fine_where_declared}
-use Rattle.cedar_convert_faults.specs.Faults.{schema_faults}
-use Rattle.cedar_convert_faults.specs.Gathering.{namespaces_of}
-use Rattle.cedar_convert_fragment.specs.Declares.{fragment_of}
-use Rattle.cedar_convert_fragment.specs.Fragments.{Fragment}
-use Rattle.cedar_convert_text.specs.Texts.{DeclaresText, TellsText}
-use Rattle.cedar_convert_text.specs.declared.parsing.CedarSchemaParseErrors.{CedarSchemaParseErrors}
-use Rattle.cedar_convert_text.specs.declared.parsing.CedarSchemaParseErrors.TheVariants.{SyntaxError, JsonError}
-use Rattle.cedar_convert_warnings.specs.Shadowing.{warnings}
-use Rattle.cedar_convert_warnings.specs.declared.warnings.SchemaWarning.{SchemaWarning}
+use Rattle.cedar_fragment_world.proofs.of_convert_faults.DeclarationLaws.{fine_where_declared}
+use Rattle.cedar_fragment_world.specs.of_convert_faults.Faults.{schema_faults}
+use Rattle.cedar_fragment_world.specs.of_convert_faults.Gathering.{namespaces_of}
+use Rattle.cedar_fragment_world.specs.of_convert_fragment.Declares.{fragment_of}
+use Rattle.cedar_fragment_world.specs.of_convert_fragment.Fragments.{Fragment}
+use Rattle.cedar_schema_errors.specs.of_convert_text.Texts.{DeclaresText, TellsText}
+use Rattle.cedar_schema_errors.specs.of_convert_text.declared.parsing.CedarSchemaParseErrors.{CedarSchemaParseErrors}
+use Rattle.cedar_schema_errors.specs.of_convert_text.declared.parsing.CedarSchemaParseErrors.TheVariants.{SyntaxError, JsonError}
+use Rattle.cedar_schema_errors.specs.of_convert_warnings.Shadowing.{warnings}
+use Rattle.cedar_schema_errors.specs.of_convert_warnings.declared.warnings.SchemaWarning.{SchemaWarning}
 use Rattle.cedar_grammar.proofs.Viability.{viable_as_completable}
 use Rattle.cedar_grammar.proofs.Wholes as grammar
 use Rattle.cedar_grammar.specs.Grammar.{OpensAtMost, Reads, Viable}
 use Rattle.cedar_grammar.specs.Stops.{IsFirstStray}
-use Rattle.cedar_syntax.proofs.Completing.{viable_front}
-use Rattle.cedar_syntax.proofs.Wholes.{none_deep, not_too_many, same_tokens}
-use Rattle.cedar_syntax.specs.Causes.{Cause, IsFirstTooDeep}
-use Rattle.cedar_syntax.specs.Texts.{HasTokens, ReadsText, open_at_most}
+use Rattle.cedar_schema_errors.proofs.of_syntax.Completing.{viable_front}
+use Rattle.cedar_schema_errors.proofs.of_syntax.Wholes.{none_deep, not_too_many, same_tokens}
+use Rattle.cedar_schema_errors.specs.of_syntax.Causes.{Cause, IsFirstTooDeep}
+use Rattle.cedar_schema_errors.specs.of_syntax.Texts.{HasTokens, ReadsText, open_at_most}
 use Rattle.cedar_tokens.proofs.Lexed.{not_both, one_list}
 use Rattle.cedar_tokens.specs.Lexemes.{TextToken}
 use Rattle.cedar_tree.specs.Nesting.{outermost_types}

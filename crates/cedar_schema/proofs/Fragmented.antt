@@ -1,24 +1,24 @@
 -- SPDX-License-Identifier: Apache-2.0
 -- The definitions of a fragment, as it is held, are of the namespaces that it declares, and their faults are its faults.
 use Rattle.std.proofs.Common.{◌≡◌, [], map, Result, Ok, Err, IfOk, subst}
-use Rattle.cedar_convert_fragment.specs.Views.{fragment_seen}
+use Rattle.cedar_fragment_world.specs.of_convert_fragment.Views.{fragment_seen}
 use Rattle.cedar_data.specs.Answers.{IfRefused}
 use Rattle.cedar_data.specs.Firsts.{IsFirst}
 use Rattle.cedar_data.specs.declared.memory.Failure.{Failure}
-use Rattle.cedar_definitions.specs.Structures.{definitions_of}
+use Rattle.cedar_fragment_world.specs.of_definitions.Structures.{definitions_of}
 use Rattle.cedar_fragment.specs.ActionUids.{over_raw}
 use Rattle.cedar_fragment.specs.declared.definitions.Fragment as held
 use Rattle.cedar_fragment_world.proofs.FaultsSeen.{faults_alike}
 use Rattle.cedar_fragment_world.proofs.NamespacesSeen.{namespaces_are}
 use Rattle.cedar_fragment_world.specs.FragmentFaults.{fragment_faults}
 use Rattle.cedar_fragment_world.specs.FragmentWorlds.{namespaces_of}
-use Rattle.cedar_namespace_definitions.specs.Definitions.{AreDefinitionsOf}
-use Rattle.cedar_namespace_definitions.specs.Faults as defined
+use Rattle.cedar_fragment_world.specs.of_namespace_definitions.Definitions.{AreDefinitionsOf}
+use Rattle.cedar_fragment_world.specs.of_namespace_definitions.Faults as defined
 use Rattle.cedar_phases.specs.Holding as phases
 use Rattle.cedar_schema_error.specs.Told.{told}
 use Rattle.cedar_schema_error.specs.declared.action_behavior.ActionBehavior.TheVariants.{ProhibitAttributes}
 use Rattle.cedar_schema_error.specs.declared.schema_error.SchemaError.{SchemaError}
-use Rattle.cedar_world.specs.DefinitionViews.{namespace_in}
+use Rattle.cedar_fragment_world.specs.of_world.DefinitionViews.{namespace_in}
 use Rattle.cedar_written.specs.declared.raw_name.RawName.{RawName}
 
 -- the faults of a fragment, as it is held and as it is declared

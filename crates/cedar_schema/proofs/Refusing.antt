@@ -1,16 +1,16 @@
 -- SPDX-License-Identifier: Apache-2.0
 -- A fragment or a text is sound or refused, not both; what refuses it tells one thing; and it denotes one schema.
 use Rattle.std.proofs.Common.{◌≡◌, inl, inr, ℕ, List, ap, sym, ◌∙◌, subst}
-use Rattle.cedar_convert_fragment.specs.Fragments.{Fragment}
-use Rattle.cedar_convert_text.specs.Texts.{DeclaresText, TellsText}
-use Rattle.cedar_convert_text.specs.declared.parsing.CedarSchemaParseErrors.{CedarSchemaParseErrors}
-use Rattle.cedar_convert_text.specs.declared.parsing.CedarSchemaParseErrors.TheVariants.{SyntaxError, JsonError}
-use Rattle.cedar_convert_warnings.specs.declared.warnings.SchemaWarning.{SchemaWarning}
-use Rattle.cedar_convert_faults.specs.Faults.{schema_faults}
+use Rattle.cedar_fragment_world.specs.of_convert_fragment.Fragments.{Fragment}
+use Rattle.cedar_schema_errors.specs.of_convert_text.Texts.{DeclaresText, TellsText}
+use Rattle.cedar_schema_errors.specs.of_convert_text.declared.parsing.CedarSchemaParseErrors.{CedarSchemaParseErrors}
+use Rattle.cedar_schema_errors.specs.of_convert_text.declared.parsing.CedarSchemaParseErrors.TheVariants.{SyntaxError, JsonError}
+use Rattle.cedar_schema_errors.specs.of_convert_warnings.declared.warnings.SchemaWarning.{SchemaWarning}
+use Rattle.cedar_fragment_world.specs.of_convert_faults.Faults.{schema_faults}
 use Rattle.cedar_grammar.proofs.Viability.{viable_as_completable}
 use Rattle.cedar_grammar.proofs.Wholes as grammar
-use Rattle.cedar_syntax.proofs.OneCause.{one_at_most}
-use Rattle.cedar_syntax.specs.Causes.{Explains}
+use Rattle.cedar_schema_errors.proofs.of_syntax.OneCause.{one_at_most}
+use Rattle.cedar_schema_errors.specs.of_syntax.Causes.{Explains}
 use Rattle.cedar_text.specs.Lists.{elements}
 use Rattle.cedar_text.specs.declared.non_empty.NonEmpty.{NonEmpty}
 use Rattle.cedar_tokens.proofs.Lexed.{not_both, one_list, one_stray}
@@ -29,8 +29,8 @@ use Rattle.cedar_schema_errors.specs.declared.schema_error.CedarSchemaError.{Ced
 use Rattle.cedar_schema_errors.specs.declared.schema_error.CedarSchemaError.TheVariants.{Parsing, Schema}
 use Rattle.cedar_phases.proofs.OneSchema.{one_schema}
 use Rattle.cedar_phases.proofs.Refusing.{one_cause, sound_or_refused}
-use Rattle.cedar_world.specs.Denotes.{Denotes}
-use Rattle.cedar_world.specs.Schemas as schemas
+use Rattle.cedar_fragment_world.specs.of_world.Denotes.{Denotes}
+use Rattle.cedar_fragment_world.specs.of_world.Schemas as schemas
 
 -- a sound fragment is not refused
 pub sound_fragment_or_refused : (behavior : ActionBehavior) (extensions : List (List ℕ)) (F : Fragment) (e : Refusal)

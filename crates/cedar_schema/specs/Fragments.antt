@@ -1,7 +1,7 @@
 -- SPDX-License-Identifier: Apache-2.0
 -- Which fragments denote a schema, and why another denotes none.
 use Rattle.std.specs.Prelude.{◌≡◌, ◌⊎◌, ℕ, List, [], ◌∷◌, codes, None}
-use Rattle.cedar_convert_fragment.specs.Fragments.{Definition, Fragment}
+use Rattle.cedar_fragment_world.specs.of_convert_fragment.Fragments.{Definition, Fragment}
 use Rattle.cedar_data.specs.Firsts.{IsFirst}
 use Rattle.cedar_fragment_world.specs.FragmentFaults.{fragment_faults}
 use Rattle.cedar_fragment_world.specs.FragmentWorlds.{world_of_fragment}

@@ -1,4 +1,10 @@
 -- SPDX-License-Identifier: Apache-2.0
+pub mod of_world
+pub mod of_schema_errors
+pub mod of_namespace_definitions
+pub mod of_fragment_world
+pub mod of_convert_text
+pub mod of_convert_fragment
 pub use Rattle.cedar_phases.specs.SchemaViews
 pub use Rattle.cedar_data.specs.formers
 pub mod Fragments

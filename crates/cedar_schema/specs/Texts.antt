@@ -1,9 +1,9 @@
 -- SPDX-License-Identifier: Apache-2.0
 -- Which texts are well formed and what schema they denote, and why a text is refused.
 use Rattle.std.specs.Prelude.{◌≡◌, ℕ, List}
-use Rattle.cedar_convert_fragment.specs.Fragments.{Fragment}
-use Rattle.cedar_convert_text.specs.Texts.{DeclaresText, TellsText}
-use Rattle.cedar_convert_warnings.specs.declared.warnings.SchemaWarning.{SchemaWarning}
+use Rattle.cedar_fragment_world.specs.of_convert_fragment.Fragments.{Fragment}
+use Rattle.cedar_schema_errors.specs.of_convert_text.Texts.{DeclaresText, TellsText}
+use Rattle.cedar_schema_errors.specs.of_convert_warnings.declared.warnings.SchemaWarning.{SchemaWarning}
 use Rattle.cedar_fragment_world.specs.FragmentWorlds.{world_of_fragment}
 use Rattle.cedar_schema.specs.Fragments.{FragmentCause, SoundFragment}
 use Rattle.cedar_schema_error.specs.Told.{told}
@@ -12,8 +12,8 @@ use Rattle.cedar_schema_errors.specs.Sources.{is_suspect, looks_like_json, synta
 use Rattle.cedar_schema_errors.specs.declared.parse_error.CedarSchemaParseError.{CedarSchemaParseError}
 use Rattle.cedar_schema_errors.specs.declared.schema_error.CedarSchemaError.{CedarSchemaError}
 use Rattle.cedar_schema_errors.specs.declared.schema_error.CedarSchemaError.TheVariants.{Parsing, Schema}
-use Rattle.cedar_world.specs.Denotes.{Denotes}
-use Rattle.cedar_world.specs.Schemas as schemas
+use Rattle.cedar_fragment_world.specs.of_world.Denotes.{Denotes}
+use Rattle.cedar_fragment_world.specs.of_world.Schemas as schemas
 
 -- a text is well formed: it declares a fragment that is sound
 pub record IsWellFormed (text : List ℕ) (extensions : List (List ℕ)) (F : Fragment) (warned : List SchemaWarning) : Type 0 where

@@ -1,9 +1,9 @@
 // SPDX-License-Identifier: Apache-2.0
 ghost use Rattle.std.specs.Prelude.{◌≡◌, [], map, IfOk};
-ghost use Rattle.cedar_convert_fragment.specs.Views.{definition_seen, fragment_seen};
+ghost use Rattle.cedar_fragment_world.specs.of_convert_fragment.Views.{definition_seen, fragment_seen};
 ghost use Rattle.cedar_data.specs.Answers.{IfRefused};
 ghost use Rattle.cedar_data.specs.Firsts.{IsFirst};
-ghost use Rattle.cedar_definitions.specs.Structures.{definitions_of};
+ghost use Rattle.cedar_fragment_world.specs.of_definitions.Structures.{definitions_of};
 ghost use Rattle.cedar_fragment_world.specs.FragmentFaults.{fragment_faults};
 ghost use Rattle.cedar_fragment_world.specs.FragmentWorlds.{namespaces_of, world_of_fragment};
 ghost use Rattle.cedar_names.specs.Extensions.{extension_words};
@@ -12,16 +12,14 @@ ghost use Rattle.cedar_phases.specs.SchemaViews.{IsNamed, schema_in};
 ghost use Rattle.cedar_schema.specs.Fragments.{FragmentCause, SoundFragment, all_extensions, unnamed};
 ghost use Rattle.cedar_schema_error.specs.Told.{told};
 ghost use Rattle.cedar_schema_error.specs.declared.action_behavior.ActionBehavior.TheVariants.{ProhibitAttributes};
-ghost use Rattle.cedar_world.specs.DefinitionViews.{namespace_in};
-ghost use Rattle.cedar_world.specs.Denotes.{Denotes};
+ghost use Rattle.cedar_fragment_world.specs.of_world.DefinitionViews.{namespace_in};
+ghost use Rattle.cedar_fragment_world.specs.of_world.Denotes.{Denotes};
 
 use cedar_data::{Map, Mem, Out};
-use cedar_definitions::ValidatorSchemaFragment;
 use cedar_fragment::{ConditionalName, Fragment, NamespaceDefinition, RawName};
+use cedar_fragment_world::{FromSchemaFragment, ValidatorSchemaFragment};
 use cedar_names::Extensions;
-use cedar_namespace_definitions::FromSchemaFragment;
-use cedar_phases::FromSchemaFragments;
-use cedar_resolved::ValidatorSchema;
+use cedar_phases::{FromSchemaFragments, ValidatorSchema};
 use cedar_schema_error::{ActionBehavior, SchemaError};
 use std::alloc::Global;
 

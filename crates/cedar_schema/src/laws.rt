@@ -1,15 +1,15 @@
 // SPDX-License-Identifier: Apache-2.0
 ghost use Rattle.std.specs.Prelude.{◌≡◌, ℕ, List};
-ghost use Rattle.cedar_convert_fragment.specs.Fragments.{Fragment};
-ghost use Rattle.cedar_convert_text.specs.Texts.{DeclaresText, TellsText};
-ghost use Rattle.cedar_convert_text.specs.declared.parsing.CedarSchemaParseErrors.{CedarSchemaParseErrors};
-ghost use Rattle.cedar_convert_warnings.specs.declared.warnings.SchemaWarning.{SchemaWarning};
+ghost use Rattle.cedar_fragment_world.specs.of_convert_fragment.Fragments.{Fragment};
+ghost use Rattle.cedar_schema_errors.specs.of_convert_text.Texts.{DeclaresText, TellsText};
+ghost use Rattle.cedar_schema_errors.specs.of_convert_text.declared.parsing.CedarSchemaParseErrors.{CedarSchemaParseErrors};
+ghost use Rattle.cedar_schema_errors.specs.of_convert_warnings.declared.warnings.SchemaWarning.{SchemaWarning};
 ghost use Rattle.cedar_schema.specs.Fragments.{FragmentCause, SoundFragment};
 ghost use Rattle.cedar_schema.specs.Texts.{DenotesSchema, IsWellFormed, TellSame, TextCause};
 ghost use Rattle.cedar_schema_error.specs.Refusals.{Refusal};
 ghost use Rattle.cedar_schema_error.specs.declared.action_behavior.ActionBehavior.{ActionBehavior};
 ghost use Rattle.cedar_schema_errors.specs.declared.schema_error.CedarSchemaError.{CedarSchemaError};
-ghost use Rattle.cedar_world.specs.Schemas.{Schema};
+ghost use Rattle.cedar_fragment_world.specs.of_world.Schemas.{Schema};
 
 /// A law: a sound fragment is not refused. It does nothing when it runs.
 pub fn sound_fragment_or_refused()

@@ -7,7 +7,12 @@ mod fragments;
 mod laws;
 mod texts;
 
+pub use cedar_fragment_world::{
+    FromNamespaceDefinition, FromSchemaFragment, ValidatorNamespaceDef, ValidatorSchemaFragment,
+};
 pub use cedar_phases::FromSchemaFragments;
+pub use cedar_schema_error::ActionBehavior;
+pub use cedar_schema_errors::CedarSchemaError;
 pub use fragments::FromFragment;
 pub use laws::{
     declared_or_not, one_declared, one_fragment_cause, one_schema_of_text, one_text_cause,

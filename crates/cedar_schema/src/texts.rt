@@ -1,9 +1,9 @@
 // SPDX-License-Identifier: Apache-2.0
 ghost use Rattle.std.specs.Prelude.{◌≡◌, List, IfOk};
-ghost use Rattle.cedar_convert_fragment.specs.Fragments.{Fragment as Declared};
-ghost use Rattle.cedar_convert_fragment.specs.Views.{fragment_seen};
-ghost use Rattle.cedar_convert_text.specs.Texts.{DeclaresText};
-ghost use Rattle.cedar_convert_warnings.specs.declared.warnings.SchemaWarning.{SchemaWarning as Warning};
+ghost use Rattle.cedar_fragment_world.specs.of_convert_fragment.Fragments.{Fragment as Declared};
+ghost use Rattle.cedar_fragment_world.specs.of_convert_fragment.Views.{fragment_seen};
+ghost use Rattle.cedar_schema_errors.specs.of_convert_text.Texts.{DeclaresText};
+ghost use Rattle.cedar_schema_errors.specs.of_convert_warnings.declared.warnings.SchemaWarning.{SchemaWarning as Warning};
 ghost use Rattle.cedar_data.specs.Answers.{Accepts, IfRefused};
 ghost use Rattle.cedar_fragment_world.specs.FragmentWorlds.{world_of_fragment};
 ghost use Rattle.cedar_names.specs.Extensions.{extension_words};
@@ -11,15 +11,16 @@ ghost use Rattle.cedar_phases.specs.SchemaViews.{IsNamed, schema_in};
 ghost use Rattle.cedar_schema.specs.Fragments.{SoundFragment, all_extensions};
 ghost use Rattle.cedar_schema.specs.Texts.{DenotesSchema, IsWellFormed, ParsingCause, SchemaCause, TextCause};
 ghost use Rattle.cedar_schema_error.specs.declared.action_behavior.ActionBehavior.TheVariants.{ProhibitAttributes};
-ghost use Rattle.cedar_world.specs.Denotes.{Denotes};
+ghost use Rattle.cedar_fragment_world.specs.of_world.Denotes.{Denotes};
 
 use crate::fragments::FromFragment;
-use cedar_convert_text::{SchemaWarning, parse_cedar_schema_fragment};
 use cedar_data::{Failure, Out};
 use cedar_fragment::{Fragment, RawName};
 use cedar_names::Extensions;
-use cedar_resolved::ValidatorSchema;
-use cedar_schema_errors::{CedarSchemaError, CedarSchemaParseError};
+use cedar_phases::ValidatorSchema;
+use cedar_schema_errors::{
+    CedarSchemaError, CedarSchemaParseError, SchemaWarning, parse_cedar_schema_fragment,
+};
 use std::alloc::Global;
 
 /// What a text in the human syntax declares.

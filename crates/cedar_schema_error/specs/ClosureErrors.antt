@@ -1,7 +1,7 @@
 -- SPDX-License-Identifier: Apache-2.0
 -- What the error of a closure of actions is of a schema.
-use Rattle.cedar_closure.specs.declared.tc_error.TcError.{TcError}
-use Rattle.cedar_closure.specs.declared.tc_error.TcError.TheVariants.{HasCycle, MissingTcEdge}
+use Rattle.cedar_fragment.specs.of_closure.declared.tc_error.TcError.{TcError}
+use Rattle.cedar_fragment.specs.of_closure.declared.tc_error.TcError.TheVariants.{HasCycle, MissingTcEdge}
 use Rattle.cedar_names.specs.declared.entity_uid.EntityUID.{EntityUID}
 use Rattle.cedar_schema_error.specs.declared.schema_error.SchemaError.{SchemaError}
 use Rattle.cedar_schema_error.specs.declared.schema_error.SchemaError.TheVariants.{ActionTransitiveClosure, CycleInActionHierarchy}

@@ -2,14 +2,14 @@
 -- Where the pieces that an error keeps stand, in the order kept.
 use Rattle.std.specs.Prelude.{◌++◌, List, [], Option}
 use Rattle.std.specs.List.{flat_map}
-use Rattle.cedar_text.specs.Lists.{elements}
-use Rattle.cedar_text.specs.declared.location.Loc.{Loc}
-use Rattle.cedar_text.specs.declared.location.Span.{Span}
-use Rattle.cedar_text.specs.declared.non_empty.NonEmpty.{NonEmpty}
+use Rattle.cedar_names.specs.of_text.Lists.{elements}
+use Rattle.cedar_names.specs.of_text.declared.location.Loc.{Loc}
+use Rattle.cedar_names.specs.of_text.declared.location.Span.{Span}
+use Rattle.cedar_names.specs.of_text.declared.non_empty.NonEmpty.{NonEmpty}
 use Rattle.cedar_names.specs.Components.{loc_of}
 use Rattle.cedar_names.specs.EntityUids.{place_of}
 use Rattle.cedar_names.specs.Names.{internal_of}
-use Rattle.cedar_closure.specs.TcErrors.{vertex_of}
+use Rattle.cedar_fragment.specs.of_closure.TcErrors.{vertex_of}
 use Rattle.cedar_schema_error.specs.NameTexts.{context_or_shape_location, deep_location, entity_place, parent_place, range, reference_place}
 use Rattle.cedar_schema_error.specs.declared.schema_error.SchemaError.{SchemaError}
 use Rattle.cedar_schema_error.specs.declared.schema_error.SchemaError.TheVariants as error

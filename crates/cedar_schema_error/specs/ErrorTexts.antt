@@ -2,7 +2,7 @@
 -- The texts of errors and of their help.
 use Rattle.std.specs.Prelude.{◌++◌, ℕ, List, [], ◌∷◌, Option, Some, None, codes, map}
 use Rattle.std.specs.Option.{option_map}
-use Rattle.cedar_text.specs.Joining.{joined}
+use Rattle.cedar_names.specs.of_text.Joining.{joined}
 use Rattle.cedar_names.specs.Components.{components}
 use Rattle.cedar_names.specs.EntityUids.{uid_text}
 use Rattle.cedar_names.specs.Names.{name_words}

@@ -2,8 +2,8 @@
 -- Errors joined into one.
 use Rattle.std.specs.Prelude.{List, [], ◌∷◌}
 use Rattle.std.specs.List.{flat_map}
-use Rattle.cedar_text.specs.Lists.{elements}
-use Rattle.cedar_text.specs.declared.non_empty.NonEmpty.{NonEmpty}
+use Rattle.cedar_names.specs.of_text.Lists.{elements}
+use Rattle.cedar_names.specs.of_text.declared.non_empty.NonEmpty.{NonEmpty}
 use Rattle.cedar_fragment.specs.ActionUids.{over_conditional}
 use Rattle.cedar_fragment.specs.declared.action_uid.ActionEntityUID.{ActionEntityUID}
 use Rattle.cedar_written.specs.declared.conditional_name.ConditionalName.{ConditionalName}

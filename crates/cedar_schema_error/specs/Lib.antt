@@ -1,4 +1,5 @@
 -- SPDX-License-Identifier: Apache-2.0
+pub mod of_closure
 pub mod ClosureErrors
 pub mod ErrorPlaces
 pub mod ErrorTexts

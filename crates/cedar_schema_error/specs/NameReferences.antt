@@ -3,7 +3,7 @@
 use Rattle.std.specs.Prelude.{ℕ, List, [], map}
 use Rattle.std.specs.Option.{option_map_or}
 use Rattle.cedar_names.specs.Components.{components}
-use Rattle.cedar_text.specs.Lists.{elements}
+use Rattle.cedar_names.specs.of_text.Lists.{elements}
 use Rattle.cedar_fragment.specs.ActionUids.{over_conditional, type_in}
 use Rattle.cedar_fragment.specs.declared.action_uid.ActionEntityUID.{ActionEntityUID}
 use Rattle.cedar_written.specs.Possibilities.{kind_of, possibilities_of, raw_of, written}

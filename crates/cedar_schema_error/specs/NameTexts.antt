@@ -2,11 +2,11 @@
 -- What errors print of names, and where those stand.
 use Rattle.std.specs.Prelude.{◌++◌, ℕ, List, [], ◌∷◌, Option, None, codes, option_to_list}
 use Rattle.std.specs.Option.{option_map, option_map_or}
-use Rattle.cedar_text.specs.Escapes.{escaped}
-use Rattle.cedar_text.specs.Joining.{joined}
-use Rattle.cedar_text.specs.Places.{span_of}
-use Rattle.cedar_text.specs.declared.location.Loc.{Loc}
-use Rattle.cedar_text.specs.declared.location.Span.{Span}
+use Rattle.cedar_names.specs.of_text.Escapes.{escaped}
+use Rattle.cedar_names.specs.of_text.Joining.{joined}
+use Rattle.cedar_names.specs.of_text.Places.{span_of}
+use Rattle.cedar_names.specs.of_text.declared.location.Loc.{Loc}
+use Rattle.cedar_names.specs.of_text.declared.location.Span.{Span}
 use Rattle.cedar_names.specs.Components.{components, loc_of}
 use Rattle.cedar_names.specs.EntityUids.{place_of, uid_text}
 use Rattle.cedar_names.specs.Names.{entity_words, internal_of, name_of}

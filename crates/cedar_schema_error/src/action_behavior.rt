@@ -2,7 +2,7 @@
 ghost use Rattle.std.specs.Prelude.{◌≡◌};
 ghost use Rattle.cedar_schema_error.specs.declared.action_behavior.ActionBehavior.TheVariants.{ProhibitAttributes};
 
-use cedar_data::{Dup, Mem};
+use cedar_names::{Dup, Mem};
 use std::alloc::Global;
 
 /// Whether an action may have attributes.

@@ -17,8 +17,7 @@ use crate::type_errors::{
     CommonTypeInvariantViolationError, ContextOrShapeNotRecordError, TooDeepError,
     UnsupportedActionAttributeError, UnsupportedFeatureError,
 };
-use cedar_closure::TcError;
-use cedar_fragment::JsonDeserializationError;
+use cedar_fragment::{JsonDeserializationError, TcError};
 use cedar_names::{EntityUID, ReservedNameError};
 
 impl From<JsonDeserializationError> for SchemaError {

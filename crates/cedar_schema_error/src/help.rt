@@ -3,7 +3,7 @@ ghost use Rattle.std.specs.Prelude.{◌≡◌, Some, IfOk};
 ghost use Rattle.std.specs.Option.{option_copied, option_map};
 ghost use Rattle.std.specs.String.{string_bytes};
 ghost use Rattle.cedar_names.specs.Components.{components};
-ghost use Rattle.cedar_text.specs.Joining.{joined};
+ghost use Rattle.cedar_names.specs.of_text.Joining.{joined};
 ghost use Rattle.cedar_schema_error.specs.ErrorTexts.{alone_help, fixed_help, help_text, neither_help, no_record_help, undefined_help};
 ghost use Rattle.cedar_schema_error.specs.NameTexts.{kind_text};
 
@@ -11,9 +11,8 @@ use crate::name_errors::TypeNotDefinedError;
 use crate::schema_error::SchemaError;
 use crate::shown::last_possibility;
 use crate::type_errors::ContextOrShape;
-use cedar_data::Mem;
 use cedar_fragment::{ConditionalName, ReferenceType};
-use cedar_names::InternalName;
+use cedar_names::{InternalName, Mem};
 use std::alloc::Global;
 
 impl SchemaError {

@@ -1,14 +1,13 @@
 // SPDX-License-Identifier: Apache-2.0
 ghost use Rattle.std.specs.Prelude.{◌≡◌, ◌++◌, IfOk, OnOk};
 ghost use Rattle.std.specs.List.{flat_map};
-ghost use Rattle.cedar_text.specs.Lists.{elements};
+ghost use Rattle.cedar_names.specs.of_text.Lists.{elements};
 ghost use Rattle.cedar_schema_error.specs.Joining.{actions_of, joined_by, joined_errors, types_of};
 
 use crate::name_errors::{ActionNotDefinedError, TypeNotDefinedError};
 use crate::schema_error::SchemaError;
-use cedar_data::{Dup, Mem};
 use cedar_fragment::{ActionEntityUID, ConditionalName};
-use cedar_text::NonEmpty;
+use cedar_names::{Dup, Mem, NonEmpty};
 use std::alloc::Global;
 
 impl SchemaError {

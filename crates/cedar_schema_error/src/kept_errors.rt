@@ -1,9 +1,7 @@
 // SPDX-License-Identifier: Apache-2.0
 //! Errors that no call here gives by itself, kept for callers that hand one in.
-use cedar_closure::TcError;
-use cedar_data::{Dup, Mem};
-use cedar_names::{EntityType, EntityUID};
-use cedar_text::NonEmpty;
+use cedar_fragment::TcError;
+use cedar_names::{Dup, EntityType, EntityUID, Mem, NonEmpty};
 use std::alloc::Global;
 
 /// A schema could not be written as JSON.

@@ -17,6 +17,10 @@ mod type_errors;
 mod use_place;
 
 pub use action_behavior::ActionBehavior;
+pub use cedar_fragment::{
+    ActionEntityUID, AttributesOrContext, ConditionalName, RecordType, RefName, ReferenceType,
+    SchemaType, Step, TypeOfAttribute, TypeVariant, Walk,
+};
 pub use kept_errors::{
     ActionAttrEvalError, ActionInvariantViolationError, ActionTransitiveClosureError,
     EntityTypeTransitiveClosureError, ExprEscapeUsedError, JsonSerializationError,

@@ -1,9 +1,7 @@
 // SPDX-License-Identifier: Apache-2.0
 //! Errors on references to what is not declared, and on names that shadow others or stand twice.
-use cedar_data::{Dup, Mem, dup_two};
 use cedar_fragment::{ActionEntityUID, ConditionalName};
-use cedar_names::{EntityType, EntityUID, InternalName};
-use cedar_text::NonEmpty;
+use cedar_names::{Dup, EntityType, EntityUID, InternalName, Mem, NonEmpty, dup_two};
 use std::alloc::Global;
 
 /// References to types that nothing declared is.

@@ -3,7 +3,7 @@ ghost use Rattle.std.specs.Prelude.{◌≡◌, ◌++◌, Some, codes};
 ghost use Rattle.std.specs.Fmt.{WritesOnOk};
 ghost use Rattle.cedar_names.specs.Components.{components};
 ghost use Rattle.cedar_names.specs.EntityUids.{uid_text};
-ghost use Rattle.cedar_text.specs.Joining.{joined};
+ghost use Rattle.cedar_names.specs.of_text.Joining.{joined};
 ghost use Rattle.cedar_schema_error.specs.ErrorTexts.{quoting, shadowing_text, undeclared_actions_text, undeclared_types_text, undefined_text, unfound_actions_text, unfound_words};
 ghost use Rattle.cedar_schema_error.specs.NameTexts.{entity_text};
 

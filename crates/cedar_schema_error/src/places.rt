@@ -10,8 +10,7 @@ use crate::schema_error::SchemaError;
 use crate::shown::Shown;
 use crate::type_errors::ContextOrShape;
 use crate::use_place::{DeepPlace, UsePlace};
-use cedar_data::Mem;
-use cedar_text::{Loc, NonEmpty, Span};
+use cedar_names::{Loc, Mem, NonEmpty, Span};
 use std::alloc::Global;
 
 impl UsePlace {

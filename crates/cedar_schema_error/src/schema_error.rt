@@ -13,9 +13,8 @@ use crate::type_errors::{
     CommonTypeInvariantViolationError, ContextOrShapeNotRecordError, TooDeepError,
     UnknownExtensionTypeError, UnsupportedActionAttributeError, UnsupportedFeatureError,
 };
-use cedar_data::{Dup, Mem};
 use cedar_fragment::JsonDeserializationError;
-use cedar_names::ReservedNameError;
+use cedar_names::{Dup, Mem, ReservedNameError};
 use std::alloc::Global;
 
 /// Why a schema is refused.

@@ -3,7 +3,7 @@ ghost use Rattle.std.specs.Prelude.{◌≡◌, ◌++◌, Some, codes};
 ghost use Rattle.cedar_names.specs.Components.{components};
 ghost use Rattle.cedar_names.specs.EntityUids.{uid_text};
 ghost use Rattle.cedar_names.specs.Names.{name_words};
-ghost use Rattle.cedar_text.specs.Joining.{joined};
+ghost use Rattle.cedar_names.specs.of_text.Joining.{joined};
 ghost use Rattle.cedar_schema_error.specs.ErrorTexts.{error_text, no_record_text, quoting};
 ghost use Rattle.std.specs.Fmt.{WritesOnOk};
 ghost use Rattle.cedar_schema_error.specs.NameTexts.{deep_text, use_text};

@@ -1,8 +1,7 @@
 // SPDX-License-Identifier: Apache-2.0
 //! Errors on the types that a schema writes, and on the attributes of its actions.
 use crate::use_place::DeepPlace;
-use cedar_data::{Dup, Items, Mem, Text, dup_two};
-use cedar_names::{EntityType, EntityUID, InternalName, Name};
+use cedar_names::{Dup, EntityType, EntityUID, InternalName, Items, Mem, Name, Text, dup_two};
 use std::alloc::Global;
 
 /// What a schema may write, and is not supported.

@@ -1,6 +1,5 @@
 // SPDX-License-Identifier: Apache-2.0
-use cedar_data::{Dup, Mem};
-use cedar_names::{EntityType, EntityUID, InternalName};
+use cedar_names::{Dup, EntityType, EntityUID, InternalName, Mem};
 use std::alloc::Global;
 
 /// Where a schema uses a type. Places are ordered by variant, and then by the kept name.

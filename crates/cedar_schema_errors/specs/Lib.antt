@@ -1,4 +1,7 @@
 -- SPDX-License-Identifier: Apache-2.0
+pub mod of_syntax
+pub mod of_convert_warnings
+pub mod of_convert_text
 pub use Rattle.cedar_data.specs.formers
 pub mod Sources
 pub mod ErrorTexts

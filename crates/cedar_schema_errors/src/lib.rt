@@ -5,7 +5,7 @@
 mod parse_error;
 mod schema_error;
 
-pub use cedar_convert_text::CedarSchemaParseErrors;
+pub use cedar_convert_text::{CedarSchemaParseErrors, SchemaWarning, parse_cedar_schema_fragment};
 pub use cedar_schema_error::SchemaError;
 pub use parse_error::CedarSchemaParseError;
 pub use schema_error::CedarSchemaError;

@@ -7,7 +7,7 @@ ghost use Rattle.cedar_sorting.specs.Walked.{Sorted, SortedMore, mark_at};
 ghost use Rattle.cedar_sorting.specs.declared.mark.Mark.TheVariants.{New, Open};
 
 use crate::mark::Mark;
-use cedar_data::{Items, Mem};
+use cedar_closure::{Items, Mem};
 use std::alloc::Global;
 
 /// A position on the way, and how much of its row was passed.

@@ -3,7 +3,7 @@ ghost use Rattle.std.specs.Prelude.{◌≡◌, ℕ, ◌<◌, ◌≤◌, length, 
 ghost use Rattle.cedar_closure.specs.Marks.{LeadWithin};
 ghost use Rattle.cedar_sorting.specs.Searched.{IsLeastToReturn, Searched, IsPlaced, Tells, merged, returning, with_part};
 
-use cedar_data::{Items, Mem};
+use cedar_closure::{Items, Mem};
 use std::alloc::Global;
 
 /// A position on the way: how much of its row was passed, where it stands on the stack, the lowest place on the stack

@@ -5,7 +5,7 @@ ghost use Rattle.cedar_sorting.specs.Orders.{Sorts};
 
 use crate::depth_first::sorted;
 use crate::least_cycle::least_on_cycle;
-use cedar_data::{Items, Mem};
+use cedar_closure::{Items, Mem};
 use std::alloc::Global;
 
 /// What rows of positions are.

@@ -4,16 +4,16 @@ use Rattle.std.specs.Prelude.{◌≡◌, ◌≤◌, ◌<◌, List, [], ◌∷◌
 use Rattle.std.proofs.Common.{arith, refl, inl, inr, sym, ap, ◌∙◌, subst}
 use Rattle.cedar_data.specs.Firsts.{IsFirst}
 use Rattle.cedar_data.proofs.Judging.{Judges, apart_of_list, none_first, one_first, one_least, one_of_list}
-use Rattle.cedar_schema_error.specs.FullNames.{FullName}
-use Rattle.cedar_schema_error.specs.Refusals.{CommonType, CycleInCommonTypeReferences, Refusal, TooDeep, UsePlace}
+use Rattle.cedar_duplicates.specs.of_schema_error.FullNames.{FullName}
+use Rattle.cedar_duplicates.specs.of_schema_error.Refusals.{CommonType, CycleInCommonTypeReferences, Refusal, TooDeep, UsePlace}
 use Rattle.cedar_sound.proofs.NameOrders.{names_exact}
-use Rattle.cedar_unfold.specs.Faults.{faults}
-use Rattle.cedar_unfold.specs.Meanings.{Meanings}
-use Rattle.cedar_unfold.specs.Resolved.{Resolved, nest, deepest}
-use Rattle.cedar_unfold.specs.UnfoldPhases.{CommonCycles, CommonDepths, CommonFaults, Fits, IsCircular, Job, Unfoldable, UnfoldPasses, UnfoldPhase, UnfoldRefuses, UnfoldsPast, UnfoldsWithin, UsePasses, UseRefuses, Uses, WhyNotUnfoldable, unfold_phases}
-use Rattle.cedar_unfold.specs.Unfolds.{Unfolds}
-use Rattle.cedar_unfold.specs.Written.{Written}
-use Rattle.cedar_unfold.proofs.OneUnfolding.{one_type}
+use Rattle.cedar_world.specs.of_unfold.Faults.{faults}
+use Rattle.cedar_world.specs.of_unfold.Meanings.{Meanings}
+use Rattle.cedar_world.specs.of_unfold.Resolved.{Resolved, nest, deepest}
+use Rattle.cedar_world.specs.of_unfold.UnfoldPhases.{CommonCycles, CommonDepths, CommonFaults, Fits, IsCircular, Job, Unfoldable, UnfoldPasses, UnfoldPhase, UnfoldRefuses, UnfoldsPast, UnfoldsWithin, UsePasses, UseRefuses, Uses, WhyNotUnfoldable, unfold_phases}
+use Rattle.cedar_world.specs.of_unfold.Unfolds.{Unfolds}
+use Rattle.cedar_world.specs.of_unfold.Written.{Written}
+use Rattle.cedar_world.proofs.of_unfold.OneUnfolding.{one_type}
 
 module _ {N : Type 0} (m : Meanings N) where
   -- a type doesn't unfold both within and past what a type may nest

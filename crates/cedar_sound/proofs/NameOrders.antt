@@ -8,7 +8,7 @@ use Rattle.cedar_data.proofs.Exact.{IsExact, texts_exact}
 use Rattle.cedar_names.proofs.NameOrder.{words_cmp-equal}
 use Rattle.cedar_names.specs.Order.{word_cmp, words_cmp}
 use Rattle.cedar_names.specs.OrderLaws.{words-total}
-use Rattle.cedar_schema_error.specs.FullNames.{FullName, Uid, uid_cmp}
+use Rattle.cedar_duplicates.specs.of_schema_error.FullNames.{FullName, Uid, uid_cmp}
 use Rattle.cedar_shadowing.proofs.LeastActions.{uid_total}
 
 pub names_exact : IsExact words_cmp

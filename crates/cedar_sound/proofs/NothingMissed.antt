@@ -8,12 +8,12 @@ use Rattle.std.specs.declared.cmp.Ordering.{Ordering}
 use Rattle.std.specs.declared.cmp.Ordering.TheVariants.{Less, Equal, Greater}
 use Rattle.cedar_data.specs.Firsts.{AllPass}
 use Rattle.cedar_data.specs.Maps.{map_of}
-use Rattle.cedar_declared.specs.Names.{Names, targets, undefined}
+use Rattle.cedar_shadowing.specs.of_declared.Names.{Names, targets, undefined}
 use Rattle.cedar_names.specs.Components.{has_cedar}
-use Rattle.cedar_schema_error.specs.FullNames.{FullName, Uid}
-use Rattle.cedar_schema_error.specs.NameReferences.{ActionReference, NameReference}
-use Rattle.cedar_schema_error.specs.Refusals.{Context, Shape, Tags, UsePlace}
-use Rattle.cedar_unfold.specs.Written.{Written}
+use Rattle.cedar_duplicates.specs.of_schema_error.FullNames.{FullName, Uid}
+use Rattle.cedar_duplicates.specs.of_schema_error.NameReferences.{ActionReference, NameReference}
+use Rattle.cedar_duplicates.specs.of_schema_error.Refusals.{Context, Shape, Tags, UsePlace}
+use Rattle.cedar_world.specs.of_unfold.Written.{Written}
 use Rattle.cedar_world.specs.Definitions.{ActionDefinition, EntityDefinition, Enumerated, Namespace, Standard, parents_of, shape_of, tags_of}
 use Rattle.cedar_world.specs.Missing.{action_memberships, entity_memberships, memberships, missing_in, missing_in_action, missing_in_entity, missing_in_namespace, missing_types, or_else, parent_types, reserved_targets}
 use Rattle.cedar_world.specs.Worlds.{actions_in, common_types_in, entity_types_in, uses_by, uses_in}

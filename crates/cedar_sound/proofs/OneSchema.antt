@@ -5,17 +5,17 @@ use Rattle.std.specs.List.{AllZip}
 use Rattle.std.proofs.Common.{refl, sym, ap, ◌∙◌}
 use Rattle.cedar_data.specs.Sets.{contains}
 use Rattle.cedar_data.proofs.Exact.{one_set}
-use Rattle.cedar_declared.specs.Names.{targets}
+use Rattle.cedar_shadowing.specs.of_declared.Names.{targets}
 use Rattle.cedar_names.specs.Order.{words_cmp}
-use Rattle.cedar_schema_error.specs.FullNames.{FullName, Uid}
-use Rattle.cedar_schema_error.specs.NameReferences.{ActionReference, NameReference}
+use Rattle.cedar_duplicates.specs.of_schema_error.FullNames.{FullName, Uid}
+use Rattle.cedar_duplicates.specs.of_schema_error.NameReferences.{ActionReference, NameReference}
 use Rattle.cedar_sound.proofs.NameOrders.{names_exact, uids_exact}
 use Rattle.cedar_types.specs.declared.ty.Attributes.{Attributes}
 use Rattle.cedar_types.specs.declared.value.ValueMap.{ValueMap}
-use Rattle.cedar_unfold.specs.Resolved.{Resolved, ResolvedAttributes}
-use Rattle.cedar_unfold.specs.Resolved as resolved
-use Rattle.cedar_unfold.specs.Written.{Written}
-use Rattle.cedar_unfold.proofs.OneUnfolding.{one_type}
+use Rattle.cedar_world.specs.of_unfold.Resolved.{Resolved, ResolvedAttributes}
+use Rattle.cedar_world.specs.of_unfold.Resolved as resolved
+use Rattle.cedar_world.specs.of_unfold.Written.{Written}
+use Rattle.cedar_world.proofs.of_unfold.OneUnfolding.{one_type}
 use Rattle.cedar_world.specs.Definitions.{ActionDefinition, EntityDefinition, Enumerated, Standard}
 use Rattle.cedar_world.specs.Denotes.{AreTargets, Denotes, DenotesAction, DenotesEntity, DenotesKind, DenotesTags}
 use Rattle.cedar_world.specs.Descents.{ActionDescendsFrom, DescendsFrom}

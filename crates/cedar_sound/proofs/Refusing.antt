@@ -8,12 +8,12 @@ use Rattle.cedar_data.specs.Firsts.{IsLeast}
 use Rattle.cedar_data.specs.Sets.{contains}
 use Rattle.cedar_data.proofs.Exact.{IsExact, one_set}
 use Rattle.cedar_data.proofs.Judging.{Judges, again_or_not, apart_of_list, none_first, one_again, one_first, one_least, one_of_list}
-use Rattle.cedar_declared.specs.Names.{Names}
+use Rattle.cedar_shadowing.specs.of_declared.Names.{Names}
 use Rattle.cedar_duplicates.specs.Duplicates.{duplicate, same_declared}
 use Rattle.cedar_names.proofs.NameOrder.{words_cmp-equal}
 use Rattle.cedar_names.specs.Order.{words_cmp}
-use Rattle.cedar_schema_error.specs.FullNames.{FullName}
-use Rattle.cedar_schema_error.specs.Refusals.{ActionNotDefined, ActionShadowing, CycleInActionHierarchy, Refusal, ReservedName, TypeNotDefined, TypeShadowing, UndeclaredEntityTypes}
+use Rattle.cedar_duplicates.specs.of_schema_error.FullNames.{FullName}
+use Rattle.cedar_duplicates.specs.of_schema_error.Refusals.{ActionNotDefined, ActionShadowing, CycleInActionHierarchy, Refusal, ReservedName, TypeNotDefined, TypeShadowing, UndeclaredEntityTypes}
 use Rattle.cedar_shadowing.specs.Shadowing.{ActionShadows, IsLeastPair, ShadowPasses, ShadowPhase, ShadowRefuses, ShadowsAction, ShadowsType, TypeShadows, shadow_phases}
 use Rattle.cedar_sound.specs.References.{MissingActions, MissingTypes, ReferencePhase, ReferencesPass, ReferencesRefuse, ReservedTargets, reference_phases}
 use Rattle.cedar_sound.specs.Sound.{ActionCycles, Cause, Duplicates, Passes, Phase, References, RefusesAt, Shadowing, Sound, UndeclaredTypes, Unfolding, all_declared, phases}

@@ -14,10 +14,10 @@ use Rattle.cedar_names.specs.Order.{words_cmp}
 use Rattle.cedar_names.specs.OrderLaws.{words-total}
 use Rattle.cedar_sound.specs.Uses.{at_place, same_place}
 use Rattle.cedar_sound.proofs.SortedMaps.{absent}
-use Rattle.cedar_schema_error.specs.FullNames.{FullName, Uid, uid_cmp}
-use Rattle.cedar_schema_error.specs.NameReferences.{ActionReference, NameReference}
-use Rattle.cedar_schema_error.specs.Refusals.{Context, Shape, Tags, UsePlace}
-use Rattle.cedar_unfold.specs.Written.{Written}
+use Rattle.cedar_duplicates.specs.of_schema_error.FullNames.{FullName, Uid, uid_cmp}
+use Rattle.cedar_duplicates.specs.of_schema_error.NameReferences.{ActionReference, NameReference}
+use Rattle.cedar_duplicates.specs.of_schema_error.Refusals.{Context, Shape, Tags, UsePlace}
+use Rattle.cedar_world.specs.of_unfold.Written.{Written}
 use Rattle.cedar_world.specs.Definitions.{ActionDefinition, EntityDefinition, Enumerated, Standard, shape_of, tags_of}
 use Rattle.cedar_world.specs.Worlds.{uses_by}
 

@@ -2,10 +2,10 @@
 -- The phases on references: what each asks, and how it refuses.
 use Rattle.std.specs.Prelude.{◌≡◌, List, [], ◌∷◌}
 use Rattle.cedar_data.specs.Firsts.{IsFirst}
-use Rattle.cedar_declared.specs.Names.{Names}
-use Rattle.cedar_schema_error.specs.FullNames.{FullName}
-use Rattle.cedar_schema_error.specs.NameReferences.{ActionReference, NameReference}
-use Rattle.cedar_schema_error.specs.Refusals.{ActionNotDefined, Refusal, ReservedName, TypeNotDefined}
+use Rattle.cedar_shadowing.specs.of_declared.Names.{Names}
+use Rattle.cedar_duplicates.specs.of_schema_error.FullNames.{FullName}
+use Rattle.cedar_duplicates.specs.of_schema_error.NameReferences.{ActionReference, NameReference}
+use Rattle.cedar_duplicates.specs.of_schema_error.Refusals.{ActionNotDefined, Refusal, ReservedName, TypeNotDefined}
 use Rattle.cedar_world.specs.Definitions.{Namespace}
 use Rattle.cedar_world.specs.Missing.{missing_actions, missing_types, reserved_targets}
 

@@ -7,11 +7,11 @@ use Rattle.cedar_data.specs.Firsts.{AllPass, FirstAgain, FirstRefused, IsLeast, 
 use Rattle.cedar_data.specs.Sets.{IsSetOf}
 use Rattle.cedar_duplicates.specs.Duplicates.{Action, CommonType, Declared, EntityType, duplicate, same_declared}
 use Rattle.cedar_names.specs.Order.{words_cmp}
-use Rattle.cedar_schema_error.specs.FullNames.{FullName, Uid, uid_cmp}
-use Rattle.cedar_schema_error.specs.Refusals.{CycleInActionHierarchy, Refusal, UndeclaredEntityTypes}
+use Rattle.cedar_duplicates.specs.of_schema_error.FullNames.{FullName, Uid, uid_cmp}
+use Rattle.cedar_duplicates.specs.of_schema_error.Refusals.{CycleInActionHierarchy, Refusal, UndeclaredEntityTypes}
 use Rattle.cedar_shadowing.specs.Shadowing.{ShadowPasses, ShadowRefuses, shadow_phases}
 use Rattle.cedar_sound.specs.References.{ReferencesPass, ReferencesRefuse, reference_phases}
-use Rattle.cedar_unfold.specs.UnfoldPhases.{Unfoldable, WhyNotUnfoldable}
+use Rattle.cedar_world.specs.of_unfold.UnfoldPhases.{Unfoldable, WhyNotUnfoldable}
 use Rattle.cedar_world.specs.Definitions.{Namespace}
 use Rattle.cedar_world.specs.Descents.{ActionDescendsFrom}
 use Rattle.cedar_world.specs.Undeclared.{IsUndeclared}

@@ -4,8 +4,8 @@ use Rattle.std.specs.Prelude.{Bool, false, List, Option}
 use Rattle.std.specs.BTreeMap.{is_at}
 use Rattle.std.specs.Map.{lookup}
 use Rattle.cedar_names.specs.Order.{words_cmp}
-use Rattle.cedar_schema_error.specs.FullNames.{uid_cmp}
-use Rattle.cedar_schema_error.specs.Refusals.{Context, Shape, Tags, UsePlace}
+use Rattle.cedar_duplicates.specs.of_schema_error.FullNames.{uid_cmp}
+use Rattle.cedar_duplicates.specs.of_schema_error.Refusals.{Context, Shape, Tags, UsePlace}
 
 -- whether two places are one
 abbrev pub same_place : UsePlace → UsePlace → Bool

@@ -1,6 +1,6 @@
 // SPDX-License-Identifier: Apache-2.0
 ghost use Rattle.std.specs.Prelude.{◌≡◌};
-ghost use Rattle.cedar_schema_error.specs.Refusals.{Refusal};
+ghost use Rattle.cedar_duplicates.specs.of_schema_error.Refusals.{Refusal};
 ghost use Rattle.cedar_sound.specs.Sound.{Cause, Sound};
 ghost use Rattle.cedar_world.specs.Denotes.{Denotes};
 ghost use Rattle.cedar_world.specs.Schemas.{Schema};

@@ -4,4 +4,6 @@
 
 mod laws;
 
+pub use cedar_duplicates::refuse_duplicates;
+pub use cedar_shadowing::ShadowingChecks;
 pub use laws::{one_cause, one_schema, sound_or_refused};

@@ -2,7 +2,7 @@
 ghost use Rattle.std.specs.Prelude.{◌≡◌, ◌++◌, map, IfOk, OnOk};
 ghost use Rattle.std.specs.List.{flat_map};
 ghost use Rattle.cedar_data.specs.Maps.{IsSortedMap, map_of, map_values};
-ghost use Rattle.cedar_declared.specs.Gathering.{action_cmp};
+ghost use Rattle.cedar_world.specs.of_declared.Gathering.{action_cmp};
 ghost use Rattle.cedar_names.specs.Names.{entity_cmp, internal_cmp};
 ghost use Rattle.cedar_tables.specs.Declarations.{action_places, common_types_of, entity_places};
 ghost use Rattle.cedar_tables.specs.Outlines.{action_outline, action_outline_in, action_place, entity_outline, entity_outline_in, entity_place, use_in};
@@ -14,9 +14,8 @@ use crate::declarations::{CommonType, Declarations, Definition};
 use crate::outlines::Tables;
 use crate::splits::{ActionSplits, EntitySplits, Use};
 use cedar_data::{Map, Mem};
-use cedar_definitions::ValidatorNamespaceDef;
 use cedar_names::InternalName;
-use cedar_schema_error::UsePlace;
+use cedar_world::{UsePlace, ValidatorNamespaceDef};
 use cedar_written::{ConditionalName, SchemaType};
 use std::alloc::Global;
 

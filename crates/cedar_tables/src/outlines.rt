@@ -1,11 +1,8 @@
 // SPDX-License-Identifier: Apache-2.0
 use cedar_data::{Map, Set, Text};
-use cedar_definitions::ValidatorApplySpec;
-use cedar_fragment::ActionEntityUID;
 use cedar_names::{EntityType, EntityUID, InternalName};
-use cedar_schema_error::UsePlace;
 use cedar_text::{Loc, NonEmpty};
-use cedar_types::{Attributes, ValueMap};
+use cedar_world::{ActionEntityUID, Attributes, UsePlace, ValidatorApplySpec, ValueMap};
 use cedar_written::{ConditionalName, SchemaType};
 
 /// An entity type without its types.

@@ -14,6 +14,10 @@ mod non_empty;
 mod unescaping;
 mod words;
 
+pub use cedar_data::{
+    Boxed, Dup, Failure, Items, Map, MapIter, MapKeys, Mem, NoMemory, Out, Set, SetIter, Shared,
+    Text, dup_four, dup_three, dup_two,
+};
 pub use collecting::{Convert, collect, collect_map, push_all, push_elements};
 pub use escapes::{Escaped, EscapedByte, escape};
 pub use fault::NameFault;

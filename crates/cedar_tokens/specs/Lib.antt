@@ -1,4 +1,5 @@
 -- SPDX-License-Identifier: Apache-2.0
+pub mod of_text
 pub mod Forms
 pub mod Lexemes
 pub mod Lexing

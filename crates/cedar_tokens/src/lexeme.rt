@@ -4,7 +4,7 @@ ghost use Rattle.cedar_tokens.specs.Standing.{StandsIn};
 ghost use Rattle.cedar_tokens.specs.Lexemes.{text_token, lexeme_token};
 
 use crate::token::{Token, TokenKind};
-use cedar_data::{Dup, Mem};
+use cedar_text::{Dup, Mem};
 use std::alloc::Global;
 
 /// A token, with the part of the text that it takes.

@@ -1,7 +1,7 @@
 // SPDX-License-Identifier: Apache-2.0
 ghost use Rattle.std.specs.Prelude.{◌≡◌, ◌⊎◌, List, ℕ, All, IsUtf8, IfOk, MatchResult};
 ghost use Rattle.cedar_text.specs.Failures.{IfRefused};
-ghost use Rattle.cedar_data.specs.declared.memory.Failure.TheVariants.{Refused as RefusedWith, NoMemory as OutOfMemory};
+ghost use Rattle.cedar_text.specs.of_data.declared.memory.Failure.TheVariants.{Refused as RefusedWith, NoMemory as OutOfMemory};
 ghost use Rattle.cedar_tokens.specs.Lexing.{Lexes, NoTokenAt};
 ghost use Rattle.cedar_tokens.specs.Standing.{ArePlaced, IsPlaceIn};
 ghost use Rattle.cedar_tokens.specs.Forms.{IsFormed, TellsFronts};
@@ -10,7 +10,7 @@ ghost use Rattle.cedar_tokens.specs.declared.token.Token.{Token};
 
 use crate::piece::{Piece, piece_of};
 use crate::token::{NoToken, Token};
-use cedar_data::{Failure, Out};
+use cedar_text::{Failure, Out};
 use std::alloc::Global;
 
 /// The tokens of a text, in its order. A text is refused with the first place that is reached at

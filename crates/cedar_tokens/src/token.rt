@@ -2,7 +2,7 @@
 ghost use Rattle.std.specs.Prelude.{◌≡◌};
 ghost use Rattle.cedar_tokens.specs.Standing.{StandsIn, own_text};
 
-use cedar_data::{Dup, Mem};
+use cedar_text::{Dup, Mem};
 use std::alloc::Global;
 
 /// What a token is.

@@ -6,12 +6,12 @@ use Rattle.std.proofs.lemmas.List.Folds.{flat_map-map}
 use Rattle.std.proofs.lemmas.Bool.Decides.{nat_tests}
 use Rattle.std.specs.List.{flat_map}
 use Rattle.std.specs.Option.{option_or}
-use Rattle.cedar_text.specs.declared.location.Span.{Span}
-use Rattle.cedar_text.specs.Places.{span_of}
-use Rattle.cedar_text.specs.declared.node.Node.{Node}
+use Rattle.cedar_names.specs.of_text.declared.location.Span.{Span}
+use Rattle.cedar_names.specs.of_text.Places.{span_of}
+use Rattle.cedar_names.specs.of_text.declared.node.Node.{Node}
 use Rattle.cedar_tree.specs.declared.annotated.Annotated as noted
-use Rattle.cedar_text.specs.Lists.{elements}
-use Rattle.cedar_text.specs.declared.non_empty.NonEmpty.{NonEmpty}
+use Rattle.cedar_names.specs.of_text.Lists.{elements}
+use Rattle.cedar_names.specs.of_text.declared.non_empty.NonEmpty.{NonEmpty}
 use Rattle.cedar_tree.specs.declared.declaration.ActionDecl as action
 use Rattle.cedar_tree.specs.declared.declaration.AppDecl as app
 use Rattle.cedar_tree.specs.declared.declaration.Namespace as declared

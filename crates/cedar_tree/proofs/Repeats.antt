@@ -4,10 +4,10 @@ use Rattle.std.proofs.Common.{◌≡◌, ℕ, Bool, true, false, List, [], ◌�
 use Rattle.std.proofs.lemmas.Slice.Eq.{bytes_eq-Decides}
 use Rattle.std.specs.BTreeMap.{is_at}
 use Rattle.std.specs.Cmp.Lexicographic.{texts_ties}
-use Rattle.cedar_data.specs.Maps.{get, Puts}
-use Rattle.cedar_text.specs.Places.{span_of}
-use Rattle.cedar_text.specs.declared.location.Span.{Span}
-use Rattle.cedar_text.specs.declared.node.Node.{Node}
+use Rattle.cedar_names.specs.of_data.Maps.{get, Puts}
+use Rattle.cedar_names.specs.of_text.Places.{span_of}
+use Rattle.cedar_names.specs.of_text.declared.location.Span.{Span}
+use Rattle.cedar_names.specs.of_text.declared.node.Node.{Node}
 use Rattle.cedar_names.specs.Annotating.{any_cmp}
 use Rattle.cedar_names.specs.Identifiers.{any_word}
 use Rattle.cedar_names.specs.declared.any_id.AnyId.{AnyId}

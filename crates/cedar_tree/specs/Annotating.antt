@@ -1,14 +1,14 @@
 -- SPDX-License-Identifier: Apache-2.0
 use Rattle.std.specs.Prelude.{ℕ, List, [], ◌∷◌, ◌++◌, Option, Some, None, cond, map}
 use Rattle.std.specs.Str.{bytes_eq}
-use Rattle.cedar_data.specs.Maps.{map_of}
+use Rattle.cedar_names.specs.of_data.Maps.{map_of}
 use Rattle.cedar_names.specs.Annotating.{any_cmp}
 use Rattle.cedar_names.specs.Identifiers.{any_word}
 use Rattle.cedar_names.specs.declared.annotation.Annotation.{Annotation}
 use Rattle.cedar_names.specs.declared.any_id.AnyId.{AnyId}
-use Rattle.cedar_text.specs.Places.{span_of}
-use Rattle.cedar_text.specs.declared.location.Span.{Span}
-use Rattle.cedar_text.specs.declared.node.Node.{Node}
+use Rattle.cedar_names.specs.of_text.Places.{span_of}
+use Rattle.cedar_names.specs.of_text.declared.location.Span.{Span}
+use Rattle.cedar_names.specs.of_text.declared.node.Node.{Node}
 use Rattle.cedar_tree.specs.declared.parse_error.UserError.{UserError}
 use Rattle.cedar_tree.specs.declared.parse_error.UserError.TheVariants.{DuplicateAnnotations}
 

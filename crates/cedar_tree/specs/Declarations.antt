@@ -2,8 +2,8 @@
 use Rattle.std.specs.Prelude.{ℕ, List, codes}
 use Rattle.cedar_names.specs.Identifiers.{id_word}
 use Rattle.cedar_names.specs.declared.id.Id.{Id}
-use Rattle.cedar_text.specs.Lists.{elements}
-use Rattle.cedar_text.specs.declared.node.Node.{Node}
+use Rattle.cedar_names.specs.of_text.Lists.{elements}
+use Rattle.cedar_names.specs.of_text.declared.node.Node.{Node}
 use Rattle.cedar_tree.specs.declared.declaration.EntityDecl.{EntityDecl}
 use Rattle.cedar_tree.specs.declared.declaration.EntityDecl.TheVariants.{Standard, Enum}
 use Rattle.cedar_tree.specs.declared.declaration.PR.{PR}

@@ -1,9 +1,9 @@
 -- SPDX-License-Identifier: Apache-2.0
 use Rattle.std.specs.Prelude.{ℕ, List, [], ◌∷◌, ◌++◌, Option, Some, None, codes, option_to_list}
 use Rattle.cedar_names.specs.Identifiers.{any_word}
-use Rattle.cedar_text.specs.Lists.{elements}
-use Rattle.cedar_text.specs.Places.{span_of}
-use Rattle.cedar_text.specs.declared.location.Span.{Span}
+use Rattle.cedar_names.specs.of_text.Lists.{elements}
+use Rattle.cedar_names.specs.of_text.Places.{span_of}
+use Rattle.cedar_names.specs.of_text.declared.location.Span.{Span}
 use Rattle.cedar_tree.specs.declared.parse_error.UserError.{UserError}
 use Rattle.cedar_tree.specs.declared.parse_error.UserError.TheVariants.{EmptyList, StringEscape, ReservedIdentifierUsed, DuplicateAnnotations}
 use Rattle.cedar_tree.specs.declared.parse_error.ParseErrorKind.{ParseErrorKind}

@@ -1,5 +1,7 @@
 -- SPDX-License-Identifier: Apache-2.0
-pub use Rattle.cedar_data.specs.formers
+pub mod of_text
+pub mod of_names
+pub use Rattle.cedar_names.specs.of_data.formers
 pub mod Annotating
 pub mod Comparing
 pub mod Declarations

@@ -6,8 +6,8 @@ use Rattle.cedar_names.specs.Identifiers.{id_word, id_words, any_word}
 use Rattle.cedar_names.specs.declared.annotation.Annotation as value
 use Rattle.cedar_names.specs.declared.annotation.Annotations as values
 use Rattle.cedar_names.specs.declared.any_id.AnyId.{AnyId}
-use Rattle.cedar_text.specs.Lists.{elements}
-use Rattle.cedar_text.specs.declared.non_empty.NonEmpty.{NonEmpty}
+use Rattle.cedar_names.specs.of_text.Lists.{elements}
+use Rattle.cedar_names.specs.of_text.declared.non_empty.NonEmpty.{NonEmpty}
 use Rattle.cedar_tree.specs.Paths.{path_ids, path_loc}
 use Rattle.cedar_tree.specs.declared.annotated.Annotated as noted
 use Rattle.cedar_tree.specs.declared.declaration.ActionDecl as action

@@ -1,8 +1,8 @@
 -- SPDX-License-Identifier: Apache-2.0
 -- How deep types nest, and where the first stands that nests too deep.
 use Rattle.std.specs.Prelude.{ℕ, ◌+◌, ◌≤◌, max, nat_lt, if◌then◌else◌, All, List, [], ◌∷◌, ◌++◌, Option, Some, None, option_to_list, flat_map}
-use Rattle.cedar_text.specs.Places.{span_of}
-use Rattle.cedar_text.specs.declared.location.Span.{Span}
+use Rattle.cedar_names.specs.of_text.Places.{span_of}
+use Rattle.cedar_names.specs.of_text.declared.location.Span.{Span}
 use Rattle.cedar_tree.specs.Trees.{Node, TypeTree, Set, Ident, Record, Attrs, no_attrs, attr, ContextDecl, Named, Shape, AppDecl, Types, Context, Declaration, Entity, Action, Common, Standard, Enum, Annotated, Namespace, Schema}
 
 -- how many sets and records may stand inside one another in a type

@@ -4,9 +4,9 @@ use Rattle.cedar_names.specs.Components.{internal_name}
 use Rattle.cedar_names.specs.Identifiers.{id_word}
 use Rattle.cedar_names.specs.declared.id.Id.{Id}
 use Rattle.cedar_names.specs.declared.internal_name.InternalName.{InternalName}
-use Rattle.cedar_text.specs.Words.{is_cedar}
-use Rattle.cedar_text.specs.declared.location.Loc.{Loc}
-use Rattle.cedar_text.specs.declared.node.Node.{Node}
+use Rattle.cedar_names.specs.of_text.Words.{is_cedar}
+use Rattle.cedar_names.specs.of_text.declared.location.Loc.{Loc}
+use Rattle.cedar_names.specs.of_text.declared.node.Node.{Node}
 use Rattle.cedar_tree.specs.declared.path.Path.{Path}
 
 -- the path of this basename in this namespace, at this place

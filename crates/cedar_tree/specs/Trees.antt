@@ -1,10 +1,10 @@
 -- SPDX-License-Identifier: Apache-2.0
 -- What a schema says, with the places of its pieces.
 use Rattle.std.specs.Prelude.{ℕ, Bool, List, [], ◌∷◌, map, Option}
-use Rattle.cedar_data.specs.Maps.{map_of}
+use Rattle.cedar_names.specs.of_data.Maps.{map_of}
 use Rattle.cedar_names.specs.Order.{word_cmp}
-use Rattle.cedar_text.specs.declared.location.Loc.{Loc}
-pub use Rattle.cedar_text.specs.declared.node.Node.{Node}
+use Rattle.cedar_names.specs.of_text.declared.location.Loc.{Loc}
+pub use Rattle.cedar_names.specs.of_text.declared.node.Node.{Node}
 
 -- the byte offsets at which a piece starts and ends, and the text in which it stands
 abbrev pub Place : Type 0

@@ -3,17 +3,18 @@ ghost use Rattle.std.specs.Prelude.{◌≡◌, ◌&&◌, Some, None, IfOk, optio
 ghost use Rattle.std.specs.BTreeMap.{insert_entry};
 ghost use Rattle.std.specs.Cmp.{on_per, and_per, on_equiv, and_equiv, on_po, then_po, on_total, then_total, then_agrees, both_tied};
 ghost use Rattle.std.specs.Ordering.{ordering_then, partial_ordering_then};
-ghost use Rattle.cedar_data.specs.Maps.{get, Puts};
+ghost use Rattle.cedar_names.specs.of_data.Maps.{get, Puts};
 ghost use Rattle.cedar_names.specs.Annotating.{annotation_entries, any_cmp};
-ghost use Rattle.cedar_text.specs.Failures.{IfRefused};
-ghost use Rattle.cedar_text.specs.Places.{span_of};
+ghost use Rattle.cedar_names.specs.of_text.Failures.{IfRefused};
+ghost use Rattle.cedar_names.specs.of_text.Places.{span_of};
 ghost use Rattle.cedar_tree.specs.Comparing.{annotations_eq, annotations_cmp, annotations-per, annotations-equiv, annotations-po, annotations-total, annotations-ties};
 ghost use Rattle.cedar_tree.specs.Annotating.{meaning, meant, repeat_in, value_text};
 ghost use Rattle.cedar_tree.specs.declared.parse_error.UserError.TheVariants.{DuplicateAnnotations};
 
 use crate::parse_error::UserError;
-use cedar_data::{Dup, Failure, Map, Mem, Out, Text};
-use cedar_names::{Annotation, Annotations, AnyId, Loc, Node, Span};
+use cedar_names::{
+    Annotation, Annotations, AnyId, Dup, Failure, Loc, Map, Mem, Node, Out, Span, Text,
+};
 use std::alloc::Global;
 use std::cmp::Ordering;
 

@@ -5,7 +5,7 @@ use crate::declaration::{
     ActionDecl, AppDecl, ContextDecl, Declaration, EntityDecl, EnumEntityDecl, Namespace, PR,
     PRAppDecl, StandardEntityDecl, TypeDecl,
 };
-use cedar_data::{Dup, Mem, dup_four, dup_three, dup_two};
+use cedar_names::{Dup, Mem, dup_four, dup_three, dup_two};
 use std::alloc::Global;
 
 impl Dup for Namespace {

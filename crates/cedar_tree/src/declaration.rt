@@ -1,13 +1,12 @@
 // SPDX-License-Identifier: Apache-2.0
 ghost use Rattle.std.specs.Prelude.{◌≡◌, ◌↔◌, [], ◌∷◌, List, None, IsTrue, IfOk};
-ghost use Rattle.cedar_text.specs.Lists.{elements, elements_left};
+ghost use Rattle.cedar_names.specs.of_text.Lists.{elements, elements_left};
 ghost use Rattle.cedar_tree.specs.Declarations.{TextAt, entity_names, word_of};
 
 use crate::annotated::Annotated;
 use crate::path::{Path, QualName};
 use crate::ty::{AttrDecl, Type};
-use cedar_data::{Dup, Items, Mem, Text};
-use cedar_names::{Id, Loc, Node, NonEmpty, NonEmptyIter};
+use cedar_names::{Dup, Id, Items, Loc, Mem, Node, NonEmpty, NonEmptyIter, Text};
 use std::alloc::Global;
 use std::fmt;
 

@@ -11,6 +11,7 @@ mod path;
 mod ty;
 
 pub use annotated::{Annotated, deduplicate_annotations};
+pub use cedar_names::{Annotations, Id, Loc, NonEmpty, NonEmptyIter, Span, UnreservedId};
 pub use declaration::{
     ActionDecl, AppDecl, ContextDecl, Decl, Declaration, EntityDecl, EnumEntityDecl, Namespace, PR,
     PRAppDecl, Schema, StandardEntityDecl, TypeDecl,

@@ -10,8 +10,7 @@ use crate::declaration::{
     ActionDecl, AppDecl, ContextDecl, Declaration, EntityDecl, Namespace, Schema,
 };
 use crate::ty::{AttrDecl, Type};
-use cedar_data::Items;
-use cedar_names::{Node, Span};
+use cedar_names::{Items, Node, Span};
 
 /// How many sets and records may stand inside one another in a type.
 const NEST_AT_MOST: usize = 128;

@@ -1,10 +1,9 @@
 // SPDX-License-Identifier: Apache-2.0
 ghost use Rattle.std.specs.Prelude.{◌≡◌, [], ◌∷◌, ◌++◌, None, Some, IfOk, OnOk, MatchOption, option_to_list};
-ghost use Rattle.cedar_text.specs.Lists.{elements, elements_left};
+ghost use Rattle.cedar_names.specs.of_text.Lists.{elements, elements_left};
 ghost use Rattle.cedar_tree.specs.Faults.{user_span, user_second, user_spans, user_text, kind_text, primary_span, second_span, error_spans, all_spans, error_list, first_kind};
 
-use cedar_data::{Dup, Items, Mem, Text};
-use cedar_names::{AnyId, BadEscape, Node, NonEmpty, NonEmptyIter, Span};
+use cedar_names::{AnyId, BadEscape, Dup, Items, Mem, Node, NonEmpty, NonEmptyIter, Span, Text};
 use std::alloc::Global;
 use std::error::Error;
 use std::fmt;

@@ -4,13 +4,11 @@ ghost use Rattle.std.specs.Vec.Iter.{into_iter_items};
 ghost use Rattle.cedar_names.specs.Identifiers.{id_words, ids_left};
 ghost use Rattle.cedar_names.specs.Order.{words_eq};
 ghost use Rattle.cedar_names.specs.OrderLaws.{words-per, words-equiv};
-ghost use Rattle.cedar_text.specs.Joining.{joined};
+ghost use Rattle.cedar_names.specs.of_text.Joining.{joined};
 ghost use Rattle.cedar_tree.specs.Comparing.{path_words, path_fed, path_fed-alike};
 ghost use Rattle.cedar_tree.specs.Paths.{path_at, path_ids, path_basename, path_namespace, path_loc, ids_at, in_cedar, name_of_path};
 
-use cedar_data::{Dup, Items, Mem, Text};
-use cedar_names::{Components, Id, InternalName, Loc, Node};
-use cedar_text::is_cedar;
+use cedar_names::{Components, Dup, Id, InternalName, Items, Loc, Mem, Node, Text, is_cedar};
 use std::alloc::Global;
 use std::fmt;
 use std::hash::{Hash, Hasher};

@@ -3,8 +3,7 @@ ghost use Rattle.std.specs.Prelude.{◌≡◌, IfOk};
 
 use crate::annotated::Annotated;
 use crate::path::Path;
-use cedar_data::{Boxed, Dup, Items, Mem, Text};
-use cedar_names::Node;
+use cedar_names::{Boxed, Dup, Items, Mem, Node, Text};
 use std::alloc::Global;
 
 /// The names of the types that are built in, each once.

@@ -1,7 +1,7 @@
 -- SPDX-License-Identifier: Apache-2.0
 -- The equations of definitions by recursion over types.
 use Rattle.std.proofs.Common.{◌≡◌, ℕ, Bool, List, refl, ap, ◌∙◌}
-use Rattle.cedar_data.specs.Maps.{map_values}
+use Rattle.cedar_closure.specs.of_data.Maps.{map_values}
 use Rattle.cedar_types.specs.declared.ty.AttributeType.{AttributeType, fold_out-AttributeType}
 use Rattle.cedar_types.specs.declared.ty.Attributes.{Attributes, fold_out-Attributes}
 use Rattle.cedar_types.specs.declared.ty.ResolvedType.{ResolvedType, fold_out-ResolvedType}

@@ -1,9 +1,9 @@
 -- SPDX-License-Identifier: Apache-2.0
 -- Types that are the same but for the places of the names in them.
 use Rattle.std.specs.Prelude.{◌≡◌, ℕ, Bool, List, [], ◌∷◌}
-use Rattle.cedar_names.specs.Names.{entity_words, name_words}
-use Rattle.cedar_names.specs.declared.name.EntityType.{EntityType}
-use Rattle.cedar_names.specs.declared.name.Name.{Name}
+use Rattle.cedar_closure.specs.of_names.Names.{entity_words, name_words}
+use Rattle.cedar_closure.specs.of_names.declared.name.EntityType.{EntityType}
+use Rattle.cedar_closure.specs.of_names.declared.name.Name.{Name}
 use Rattle.cedar_types.specs.Types.{bool_type, long_type, string_type, set_type, record_type, entity_type, extension_type, attributes_of}
 use Rattle.cedar_types.specs.declared.ty.AttributeType.{AttributeType}
 use Rattle.cedar_types.specs.declared.ty.OpenTag.{OpenTag}

@@ -1,8 +1,8 @@
 -- SPDX-License-Identifier: Apache-2.0
 -- Resolved types: what the constructors make, a type seen as one layer, and definitions by recursion.
 use Rattle.std.specs.Prelude.{ℕ, Bool, true, List}
-use Rattle.cedar_names.specs.declared.name.EntityType.{EntityType}
-use Rattle.cedar_names.specs.declared.name.Name.{Name}
+use Rattle.cedar_closure.specs.of_names.declared.name.EntityType.{EntityType}
+use Rattle.cedar_closure.specs.of_names.declared.name.Name.{Name}
 use Rattle.cedar_types.specs.declared.ty.AttributeType.{AttributeType, fold-AttributeType}
 use Rattle.cedar_types.specs.declared.ty.Attributes.{Attributes, out-Attributes, roll-Attributes, fold-Attributes}
 use Rattle.cedar_types.specs.declared.ty.OpenTag.{OpenTag}

@@ -6,6 +6,10 @@
 mod ty;
 mod value;
 
-pub use cedar_closure::{SetIter, TcError, TcKey, TcNode, close_map, compute_tc};
+pub use cedar_closure::{
+    Annotations, Dup, Eid, EntityType, EntityUID, InternalName, Items, Loc, Map, Mem, Name,
+    NonEmpty, Out, ReservedNameError, SetIter, TcError, TcKey, TcNode, Text, UnreservedId,
+    close_map, compute_tc, dup_four, dup_three, dup_two,
+};
 pub use ty::{AttrIter, AttributeType, Attributes, OpenTag, ResolvedType as Type, TypeView};
 pub use value::{CedarValueJson, ValueList, ValueListIter, ValueMap, ValueMapIter};

@@ -3,12 +3,11 @@ ghost use Rattle.std.specs.Prelude.{◌≡◌, [], ℕ, List, length, IfOk};
 ghost use Rattle.std.specs.Option.{option_copied};
 ghost use Rattle.std.specs.Cmp.Lexicographic.{slice_cmp};
 ghost use Rattle.std.specs.Ordering.{nat_cmp};
-ghost use Rattle.cedar_data.specs.Maps.{get_text, is_text, last_value, map_values, IsSortedMap};
+ghost use Rattle.cedar_closure.specs.of_data.Maps.{get_text, is_text, last_value, map_values, IsSortedMap};
 ghost use Rattle.cedar_types.specs.Types.{bool_type, long_type, string_type, set_type, record_type, entity_type, extension_type, entries, attributes_of, required, layer, lent};
 ghost use Rattle.cedar_types.specs.declared.ty.OpenTag.TheVariants.{OpenAttributes};
 
-use cedar_data::{Dup, Map, MapIter, Mem, Shared, Text};
-use cedar_names::{EntityType, Name};
+use cedar_closure::{Dup, EntityType, Map, MapIter, Mem, Name, Shared, Text};
 use std::alloc::Global;
 
 /// A resolved type. Its parts are shared, so that a copy takes no memory but for its names.

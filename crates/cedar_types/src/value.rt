@@ -5,10 +5,10 @@ ghost use Rattle.std.specs.Cmp.Lexicographic.{slice_cmp};
 ghost use Rattle.std.specs.Option.{option_copied};
 ghost use Rattle.std.specs.Ordering.{nat_cmp};
 ghost use Rattle.std.specs.Slice.Iter.{iter_rest};
-ghost use Rattle.cedar_data.specs.Maps.{get_text, is_text, IsSortedMap};
+ghost use Rattle.cedar_closure.specs.of_data.Maps.{get_text, is_text, IsSortedMap};
 ghost use Rattle.cedar_types.specs.Values.{members, list_values};
 
-use cedar_data::{Dup, Items, Map, MapIter, Mem, Text};
+use cedar_closure::{Dup, Items, Map, MapIter, Mem, Text};
 use std::alloc::Global;
 use std::slice;
 

@@ -7,10 +7,10 @@ use Rattle.std.specs.List.{AllByRecursion, filter_map, flat_map}
 use Rattle.cedar_data.specs.Maps.{map_values}
 use Rattle.cedar_names.specs.Components.{components}
 use Rattle.cedar_names.specs.declared.internal_name.InternalName.{InternalName}
-use Rattle.cedar_schema_error.specs.FullNames.{FullName}
-use Rattle.cedar_unfold.proofs.SchemaTypes.{is_common, type_is, variant_boolean, variant_either, variant_entity, variant_extension, variant_long, variant_set, variant_string}
-use Rattle.cedar_unfold.specs.Written.{Written}
-use Rattle.cedar_unfold.specs.WrittenViews.{attribute_view, record_view, type_view, variant_view, written_attribute, written_attributes, written_record, written_type, written_variant}
+use Rattle.cedar_missing.specs.of_schema_error.FullNames.{FullName}
+use Rattle.cedar_world.proofs.of_unfold.SchemaTypes.{is_common, type_is, variant_boolean, variant_either, variant_entity, variant_extension, variant_long, variant_set, variant_string}
+use Rattle.cedar_world.specs.of_unfold.Written.{Written}
+use Rattle.cedar_world.specs.of_unfold.WrittenViews.{attribute_view, record_view, type_view, variant_view, written_attribute, written_attributes, written_record, written_type, written_variant}
 use Rattle.cedar_world.specs.Undeclared.{all_entity_references, attribute_entity_references, entity_references}
 use Rattle.cedar_written.proofs.TypeFolds.{fold-Boolean, fold-CommonTypeRef, fold-Entity, fold-EntityOrCommon, fold-Extension, fold-Long, fold-Record, fold-Set, fold-String, fold-Variant, fold-attribute_of, fold-record_of}
 use Rattle.cedar_written.proofs.TypeInduction.{by_cases}

@@ -3,7 +3,7 @@
 use Rattle.std.proofs.Common.{◌≡◌, Bool, true, false, not, List, [], ◌∷◌, cond, refl, ap}
 use Rattle.std.specs.List.{filter}
 use Rattle.cedar_names.specs.Components.{has_cedar}
-use Rattle.cedar_schema_error.specs.FullNames.{FullName}
+use Rattle.cedar_missing.specs.of_schema_error.FullNames.{FullName}
 use Rattle.cedar_undeclared.specs.Undeclared.{is_free}
 
 -- where no name has `__cedar`, none is left out

@@ -11,16 +11,16 @@ use Rattle.std.specs.declared.cmp.Ordering.TheVariants.{Less, Equal, Greater}
 use Rattle.cedar_data.specs.Firsts.{AllPass}
 use Rattle.cedar_data.specs.Maps.{map_of}
 use Rattle.cedar_data.specs.Sets.{contains, IsSetOf}
-use Rattle.cedar_declared.specs.Names.{Names, target, targets}
+use Rattle.cedar_missing.specs.of_declared.Names.{Names, target, targets}
 use Rattle.cedar_names.proofs.NameOrder.{words_cmp-equal}
 use Rattle.cedar_names.specs.Components.{has_cedar}
 use Rattle.cedar_names.specs.Order.{words_cmp}
-use Rattle.cedar_schema_error.specs.FullNames.{FullName, uid_cmp}
-use Rattle.cedar_schema_error.specs.NameReferences.{ActionReference, NameReference}
-use Rattle.cedar_unfold.specs.Faults.{attribute_faults_by, entity_fault, faults_by, of_target, open_fault, reserved_fault}
-use Rattle.cedar_unfold.specs.Meanings.{Meanings, is_common}
-use Rattle.cedar_unfold.specs.UnfoldPhases.{UnfoldPasses, Unfoldable, CommonFaults, Uses}
-use Rattle.cedar_unfold.specs.Written.{Written, WrittenAttributes, Boolean, Long, String, Extension, Set, Record, Entity, EntityOrCommon, CommonTypeRef, no_attributes, attribute}
+use Rattle.cedar_missing.specs.of_schema_error.FullNames.{FullName, uid_cmp}
+use Rattle.cedar_missing.specs.of_schema_error.NameReferences.{ActionReference, NameReference}
+use Rattle.cedar_world.specs.of_unfold.Faults.{attribute_faults_by, entity_fault, faults_by, of_target, open_fault, reserved_fault}
+use Rattle.cedar_world.specs.of_unfold.Meanings.{Meanings, is_common}
+use Rattle.cedar_world.specs.of_unfold.UnfoldPhases.{UnfoldPasses, Unfoldable, CommonFaults, Uses}
+use Rattle.cedar_world.specs.of_unfold.Written.{Written, WrittenAttributes, Boolean, Long, String, Extension, Set, Record, Entity, EntityOrCommon, CommonTypeRef, no_attributes, attribute}
 use Rattle.cedar_world.specs.Definitions.{ActionDefinition, EntityDefinition, Namespace, parents_of}
 use Rattle.cedar_world.specs.Missing.{action_memberships, entity_memberships, memberships, parent_types, reserved_targets}
 use Rattle.cedar_world.specs.Undeclared.{IsUndeclared, all_entity_references, applications, attribute_entity_references, entity_parents, entity_references, references_to_entities}

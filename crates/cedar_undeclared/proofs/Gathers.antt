@@ -4,7 +4,7 @@ use Rattle.std.proofs.Common.{◌≡◌, List, [], ◌∷◌, ◌++◌, sym, ap,
 use Rattle.std.proofs.lemmas.List.Sums.{fold-append}
 use Rattle.std.specs.List.{flat_map}
 use Rattle.cedar_data.specs.Maps.{map_values}
-use Rattle.cedar_declared.specs.Names.{Names}
+use Rattle.cedar_missing.specs.of_declared.Names.{Names}
 use Rattle.cedar_names.specs.declared.internal_name.InternalName.{InternalName}
 use Rattle.cedar_written.specs.References.{Refs}
 use Rattle.cedar_undeclared.specs.Gathering.{with_reference, with_references}

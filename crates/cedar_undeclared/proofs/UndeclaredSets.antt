@@ -12,15 +12,15 @@ use Rattle.std.specs.Ordering.{match_ordering, ordering_reverse}
 use Rattle.std.specs.declared.cmp.Ordering.{Ordering}
 use Rattle.std.specs.declared.cmp.Ordering.TheVariants.{Less, Equal, Greater}
 use Rattle.cedar_data.specs.Sets.{contains, IsSetOf}
-use Rattle.cedar_declared.proofs.Looked.{any_insert_key}
-use Rattle.cedar_declared.specs.Names.{Names, is_entity}
+use Rattle.cedar_missing.proofs.of_declared.Looked.{any_insert_key}
+use Rattle.cedar_missing.specs.of_declared.Names.{Names, is_entity}
 use Rattle.cedar_names.proofs.NameOrder.{words_cmp-equal}
 use Rattle.cedar_names.specs.Components.{components}
 use Rattle.cedar_names.specs.Names.{internal_cmp}
 use Rattle.cedar_names.specs.Order.{words_cmp}
 use Rattle.cedar_names.specs.OrderLaws.{words-total}
 use Rattle.cedar_names.specs.declared.internal_name.InternalName.{InternalName}
-use Rattle.cedar_schema_error.specs.FullNames.{FullName}
+use Rattle.cedar_missing.specs.of_schema_error.FullNames.{FullName}
 use Rattle.cedar_written.specs.Reference.{named, parent}
 use Rattle.cedar_written.specs.References.{Refs}
 use Rattle.cedar_written.specs.declared.reference_type.ReferenceType.TheVariants.{Common, Entity, CommonOrEntity}

@@ -6,17 +6,17 @@ use Rattle.std.proofs.lemmas.List.Folds.{list_any-append}
 use Rattle.std.specs.BTreeMap.{is_at}
 use Rattle.std.specs.List.{AllZip, cons_option, filter_map}
 use Rattle.cedar_data.specs.Sets.{contains, IsSetOf}
-use Rattle.cedar_declared.specs.Names.{Names, is_entity, target, targets}
+use Rattle.cedar_missing.specs.of_declared.Names.{Names, is_entity, target, targets}
 use Rattle.cedar_names.specs.Components.{components}
 use Rattle.cedar_names.specs.Order.{words_cmp}
 use Rattle.cedar_names.specs.declared.internal_name.InternalName.{InternalName}
-use Rattle.cedar_schema_error.specs.FullNames.{FullName}
-use Rattle.cedar_schema_error.specs.Told.{told_use}
-use Rattle.cedar_schema_error.specs.declared.use_place.UsePlace.{UsePlace}
-use Rattle.cedar_unfold.specs.Full.{by_place}
-use Rattle.cedar_unfold.specs.Tables.{by_name}
-use Rattle.cedar_unfold.specs.Written.{Written, WrittenAttributes}
-use Rattle.cedar_unfold.specs.WrittenViews.{written_type}
+use Rattle.cedar_missing.specs.of_schema_error.FullNames.{FullName}
+use Rattle.cedar_missing.specs.of_schema_error.Told.{told_use}
+use Rattle.cedar_missing.specs.of_schema_error.declared.use_place.UsePlace.{UsePlace}
+use Rattle.cedar_world.specs.of_unfold.Full.{by_place}
+use Rattle.cedar_world.specs.of_unfold.Tables.{by_name}
+use Rattle.cedar_world.specs.of_unfold.Written.{Written, WrittenAttributes}
+use Rattle.cedar_world.specs.of_unfold.WrittenViews.{written_type}
 use Rattle.cedar_world.specs.Qualified.{Qualifies, QualifiesAt, QualifiesEach, QualifiesJob}
 use Rattle.cedar_world.specs.Qualified as q
 use Rattle.cedar_world.specs.Undeclared.{IsUndeclared, all_entity_references, attribute_entity_references, entity_references, references_to_entities}

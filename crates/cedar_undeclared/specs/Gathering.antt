@@ -4,7 +4,7 @@ use Rattle.std.specs.Prelude.{List, cond, fold}
 use Rattle.std.specs.BTreeSet.{insert_key}
 use Rattle.std.specs.List.{flat_map}
 use Rattle.cedar_data.specs.Maps.{map_values}
-use Rattle.cedar_declared.specs.Names.{Names, is_entity}
+use Rattle.cedar_missing.specs.of_declared.Names.{Names, is_entity}
 use Rattle.cedar_names.specs.Components.{components}
 use Rattle.cedar_names.specs.Names.{internal_cmp}
 use Rattle.cedar_names.specs.declared.internal_name.InternalName.{InternalName}

@@ -1,7 +1,7 @@
 -- SPDX-License-Identifier: Apache-2.0
 -- The references of a world, outside types, that must mean entity types.
 use Rattle.std.specs.Prelude.{◌++◌, List}
-use Rattle.cedar_schema_error.specs.NameReferences.{NameReference}
+use Rattle.cedar_missing.specs.of_schema_error.NameReferences.{NameReference}
 use Rattle.cedar_world.specs.Undeclared.{applications, entity_parents}
 use Rattle.cedar_world.specs.Worlds.{World, actions, entity_types}
 

@@ -3,14 +3,14 @@
 use Rattle.std.specs.Prelude.{◌++◌, ◌&&◌, Bool, not, IsTrue, List, [], ◌∷◌, Option, Some, None, map}
 use Rattle.cedar_data.specs.Maps.{map_values}
 use Rattle.cedar_data.specs.Sets.{contains}
-use Rattle.cedar_declared.specs.Names.{Names, is_entity}
+use Rattle.cedar_missing.specs.of_declared.Names.{Names, is_entity}
 use Rattle.cedar_names.specs.Components.{components, has_cedar}
 use Rattle.cedar_names.specs.Order.{words_cmp}
 use Rattle.cedar_names.specs.declared.internal_name.InternalName.{InternalName}
-use Rattle.cedar_schema_error.specs.FullNames.{FullName}
-use Rattle.cedar_schema_error.specs.Refusals.{Refusal, UndeclaredEntityTypes}
-use Rattle.cedar_unfold.specs.Written.{Written}
-use Rattle.cedar_unfold.specs.WrittenViews.{written_type}
+use Rattle.cedar_missing.specs.of_schema_error.FullNames.{FullName}
+use Rattle.cedar_missing.specs.of_schema_error.Refusals.{Refusal, UndeclaredEntityTypes}
+use Rattle.cedar_world.specs.of_unfold.Written.{Written}
+use Rattle.cedar_world.specs.of_unfold.WrittenViews.{written_type}
 use Rattle.cedar_world.specs.Undeclared.{all_entity_references}
 use Rattle.cedar_written.specs.declared.ty.SchemaType.{SchemaType}
 

@@ -4,12 +4,12 @@ ghost use Rattle.std.specs.List.{filter};
 ghost use Rattle.std.specs.Option.{option_map};
 ghost use Rattle.cedar_names.specs.Components.{components, has_cedar};
 ghost use Rattle.cedar_names.specs.Names.{entity_words};
-ghost use Rattle.cedar_schema_error.specs.Told.{told};
+ghost use Rattle.cedar_missing.specs.of_schema_error.Told.{told};
 ghost use Rattle.cedar_undeclared.specs.Undeclared.{is_free, undeclared_refusal};
 
 use cedar_data::{Dup, Mem, Set};
+use cedar_missing::{SchemaError, UndeclaredEntityTypesError};
 use cedar_names::{EntityType, InternalName, Name};
-use cedar_schema_error::{SchemaError, UndeclaredEntityTypesError};
 use cedar_text::NonEmpty;
 use std::alloc::Global;
 

@@ -1,13 +1,13 @@
 // SPDX-License-Identifier: Apache-2.0
 //! Undeclared names put to others, those of types in the order in which they stand there.
 ghost use Rattle.std.specs.Prelude.{◌≡◌, OnOk};
-ghost use Rattle.cedar_declared.specs.Held.{names_of};
+ghost use Rattle.cedar_missing.specs.of_declared.Held.{names_of};
 ghost use Rattle.cedar_missing.specs.Undeclared.{references_of_attributes};
 ghost use Rattle.cedar_undeclared.specs.Gathering.{references_of_types, with_all_undeclared, with_references, with_undeclared};
 ghost use Rattle.cedar_written.specs.References.{references, references_of_attribute, references_of_record, references_of_variant};
 
 use cedar_data::{Dup, Map, Mem, Set, Text};
-use cedar_declared::AllDefs;
+use cedar_missing::AllDefs;
 use cedar_names::InternalName;
 use cedar_written::{RecordType, SchemaType, TypeOfAttribute, TypeVariant};
 use std::alloc::Global;

@@ -1,16 +1,15 @@
 // SPDX-License-Identifier: Apache-2.0
 ghost use Rattle.std.specs.Prelude.{map, IfOk};
 ghost use Rattle.cedar_data.specs.Sets.{IsSetOf};
-ghost use Rattle.cedar_declared.specs.Held.{names_of};
+ghost use Rattle.cedar_missing.specs.of_declared.Held.{names_of};
 ghost use Rattle.cedar_names.specs.Components.{components};
 ghost use Rattle.cedar_names.specs.Order.{words_cmp};
 ghost use Rattle.cedar_undeclared.specs.Undeclared.{IsUndeclaredAmong, names_of_entities};
 
 use crate::gather::{gather_in_types, gather_names};
 use cedar_data::{Map, Mem, Set};
-use cedar_declared::AllDefs;
+use cedar_missing::{AllDefs, UsePlace};
 use cedar_names::InternalName;
-use cedar_schema_error::UsePlace;
 use cedar_written::SchemaType;
 use std::alloc::Global;
 

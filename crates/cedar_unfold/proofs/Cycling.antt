@@ -12,9 +12,9 @@ use Rattle.std.specs.Map.{keys_of}
 use Rattle.std.specs.Option.{is_some}
 use Rattle.std.specs.Ordering.{ordering_reverse}
 use Rattle.std.specs.declared.cmp.Ordering.TheVariants.{Less, Equal, Greater}
-use Rattle.cedar_closure.proofs.ChainLaws.{Reaches-map}
-use Rattle.cedar_closure.specs.Chains.{Reaches, one, more}
-use Rattle.cedar_closure.specs.Marks.{Leads}
+use Rattle.cedar_types.proofs.of_closure.ChainLaws.{Reaches-map}
+use Rattle.cedar_types.specs.of_closure.Chains.{Reaches, one, more}
+use Rattle.cedar_types.specs.of_closure.Marks.{Leads}
 use Rattle.cedar_data.specs.Firsts.{SomePasses, IsLeast}
 use Rattle.cedar_names.proofs.NameOrder.{words_cmp-equal}
 use Rattle.cedar_names.specs.Order.{words_cmp}

@@ -11,7 +11,7 @@ use Rattle.cedar_names.specs.declared.extensions.Extensions.{Extensions}
 use Rattle.cedar_names.specs.declared.internal_name.InternalName.{InternalName}
 use Rattle.cedar_schema_error.specs.FullNames.{FullName}
 use Rattle.cedar_schema_error.specs.Refusals.{Refusal, UsePlace}
-use Rattle.cedar_text.specs.Words.{has_word}
+use Rattle.cedar_names.specs.of_text.Words.{has_word}
 use Rattle.cedar_unfold.specs.Full.{AreFaultless, IsFull, UsesOf, job_of, meanings_of}
 use Rattle.cedar_unfold.specs.Meanings.{Meanings, full_meanings}
 use Rattle.cedar_unfold.specs.Passing.{DefinitionsPass, DefinitionsRefuse, GivesUse, HasSome, HasType, LacksType}

@@ -7,7 +7,7 @@ use Rattle.std.specs.List.{AllByRecursion, prefix_len, position_or_len}
 use Rattle.std.specs.List.Sorted.{IsStrictlySortedBy}
 use Rattle.std.specs.Map.{keys_of, lookup}
 use Rattle.std.specs.declared.cmp.Ordering.TheVariants.{Less}
-use Rattle.cedar_closure.specs.Places.{place}
+use Rattle.cedar_types.specs.of_closure.Places.{place}
 use Rattle.cedar_data.proofs.MapsMade.{map-insert_entry}
 use Rattle.cedar_data.specs.Maps.{get}
 use Rattle.cedar_names.specs.Components.{components}

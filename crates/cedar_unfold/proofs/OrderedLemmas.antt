@@ -4,8 +4,8 @@ use Rattle.std.proofs.Common.{◌≡◌, ℕ, inl, inr, Bool, List, [], Option, 
 use Rattle.std.specs.List.{flat_map}
 use Rattle.std.specs.List.Sorted.{IsStrictlySortedBy}
 use Rattle.std.specs.Map.{keys_of}
-use Rattle.cedar_closure.specs.Chains.{Reaches}
-use Rattle.cedar_closure.specs.Marks.{Leads, LeadWithin}
+use Rattle.cedar_types.specs.of_closure.Chains.{Reaches}
+use Rattle.cedar_types.specs.of_closure.Marks.{Leads, LeadWithin}
 use Rattle.cedar_names.specs.Extensions.{extension_words}
 use Rattle.cedar_names.specs.Names.{internal_cmp}
 use Rattle.cedar_names.specs.Order.{words_cmp}
@@ -16,7 +16,7 @@ use Rattle.cedar_schema_error.specs.Refusals.{Refusal, CycleInCommonTypeReferenc
 use Rattle.cedar_sorting.specs.Orders.{IsLeastOnCycle, Sorts}
 use Rattle.cedar_sorting.specs.declared.sort.Sorting.{Sorting}
 use Rattle.cedar_sorting.specs.declared.sort.Sorting.TheVariants.{Order, Cycle}
-use Rattle.cedar_text.specs.Words.{has_word}
+use Rattle.cedar_names.specs.of_text.Words.{has_word}
 use Rattle.cedar_unfold.specs.Faults.{faults, faults_by}
 use Rattle.cedar_unfold.specs.Following.{first_of}
 use Rattle.cedar_unfold.specs.Full.{meanings_of}

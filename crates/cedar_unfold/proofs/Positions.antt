@@ -13,9 +13,9 @@ use Rattle.std.specs.Cmp.{IsTotalOrder}
 use Rattle.std.specs.List.{list_any, filter_map, cons_option, position_or_len}
 use Rattle.std.specs.List.Sorted.{IsStrictlySortedBy}
 use Rattle.std.specs.Map.{keys_of, lookup}
-use Rattle.cedar_closure.proofs.KeyChains.{place-known}
-use Rattle.cedar_closure.proofs.PlaceLemmas.{equal_from_is_eq}
-use Rattle.cedar_closure.specs.Marks.{LeadWithin}
+use Rattle.cedar_types.proofs.of_closure.KeyChains.{place-known}
+use Rattle.cedar_types.proofs.of_closure.PlaceLemmas.{equal_from_is_eq}
+use Rattle.cedar_types.specs.of_closure.Marks.{LeadWithin}
 use Rattle.cedar_data.specs.Maps.{get}
 use Rattle.cedar_names.proofs.NameOrder.{words_cmp-equal}
 use Rattle.cedar_names.specs.Order.{words_cmp}

@@ -9,7 +9,7 @@ use Rattle.std.specs.Ordering.{nat_cmp}
 use Rattle.cedar_data.specs.Maps.{map_values}
 use Rattle.cedar_names.specs.Identifiers.{unreserved_word}
 use Rattle.cedar_names.specs.declared.id.UnreservedId.{UnreservedId}
-use Rattle.cedar_text.specs.declared.location.Loc.{Loc}
+use Rattle.cedar_names.specs.of_text.declared.location.Loc.{Loc}
 use Rattle.cedar_written.proofs.TypeFolds.{fold-Variant, fold-CommonTypeRef, fold-String, fold-Long, fold-Boolean, fold-Set, fold-Record, fold-Entity, fold-EntityOrCommon, fold-Extension}
 use Rattle.cedar_written.specs.declared.ty.SchemaType.{SchemaType}
 use Rattle.cedar_written.specs.declared.ty.SchemaType.TheVariants as type

@@ -9,7 +9,7 @@ use Rattle.cedar_names.specs.Extensions.{extension_words}
 use Rattle.cedar_names.specs.declared.extensions.Extensions.{Extensions}
 use Rattle.cedar_schema_error.specs.FullNames.{FullName}
 use Rattle.cedar_schema_error.specs.Refusals.{UsePlace, Refusal, TooDeep, Place, ContextOrShapeNotRecord}
-use Rattle.cedar_text.specs.Words.{has_word}
+use Rattle.cedar_names.specs.of_text.Words.{has_word}
 use Rattle.cedar_unfold.specs.Faults.{faults, faults_by}
 use Rattle.cedar_unfold.specs.Finished.{finished}
 use Rattle.cedar_unfold.specs.Following.{first_of}

@@ -8,7 +8,7 @@ use Rattle.cedar_schema_error.specs.FullNames.{FullName}
 use Rattle.cedar_schema_error.specs.Refusals.{UsePlace}
 use Rattle.cedar_schema_error.specs.Told.{told_use}
 use Rattle.cedar_schema_error.specs.declared.use_place.UsePlace as code
-use Rattle.cedar_text.specs.Words.{has_word}
+use Rattle.cedar_names.specs.of_text.Words.{has_word}
 use Rattle.cedar_unfold.specs.Faults.{faults}
 use Rattle.cedar_unfold.specs.Finished.{within}
 use Rattle.cedar_unfold.specs.Meanings.{Meanings, definition_of, full_meanings}

@@ -1,4 +1,6 @@
 -- SPDX-License-Identifier: Apache-2.0
+pub mod of_schema_error
+pub mod of_closure
 pub mod Written
 pub mod WrittenViews
 pub mod Resolved

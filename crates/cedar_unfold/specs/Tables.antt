@@ -2,7 +2,7 @@
 -- Maps by name, and tables of finished types, as contracts see them.
 use Rattle.std.specs.Prelude.{ℕ, Bool, List, map, Option}
 use Rattle.std.specs.Option.{is_some, option_map}
-use Rattle.cedar_closure.specs.Places.{place}
+use Rattle.cedar_types.specs.of_closure.Places.{place}
 use Rattle.cedar_data.specs.Maps.{get}
 use Rattle.cedar_names.specs.Components.{components}
 use Rattle.cedar_names.specs.Order.{words_cmp}

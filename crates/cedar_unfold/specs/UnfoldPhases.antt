@@ -2,7 +2,7 @@
 -- The phases of unfolding: what each asks, and how it refuses.
 use Rattle.std.specs.Prelude.{◌≡◌, ◌⊎◌, ◌≤◌, ◌<◌, ℕ, Bool, IsTrue, List, [], ◌∷◌, Some}
 use Rattle.std.specs.List.{AllZip}
-use Rattle.cedar_closure.specs.Chains.{Reaches}
+use Rattle.cedar_types.specs.of_closure.Chains.{Reaches}
 use Rattle.cedar_data.specs.Firsts.{AllPass, SomePasses, FirstRefused, IsFirst, IsLeast}
 use Rattle.cedar_names.specs.Order.{words_cmp}
 use Rattle.cedar_schema_error.specs.FullNames.{FullName}

@@ -21,6 +21,11 @@ mod unfold_type;
 mod uses;
 
 pub use all::{Unfolded, unfold_all};
+pub use cedar_schema_error::{
+    ActionEntityUID, AttributesOrContext, ConditionalName, ReferenceType, SchemaType, TypeVariant,
+    UsePlace,
+};
+pub use cedar_types::{Attributes, ValueMap};
 pub use laws::one_unfolding;
 pub use node::{Looked, TypeNode};
 pub use steps::Steps;

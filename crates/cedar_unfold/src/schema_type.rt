@@ -4,7 +4,7 @@ use crate::node::{Looked, TypeNode};
 use crate::steps::Steps;
 use cedar_data::Text;
 use cedar_names::InternalName;
-use cedar_written::{SchemaType, TypeVariant};
+use cedar_schema_error::{SchemaType, TypeVariant};
 use std::sync::ledger::Ledger;
 
 impl TypeNode for SchemaType<InternalName> {

@@ -5,7 +5,7 @@ ghost use Rattle.std.specs.List.Sorted.{IsStrictlySortedBy};
 ghost use Rattle.std.specs.Option.{option_or};
 ghost use Rattle.cedar_names.specs.Extensions.{extension_words};
 ghost use Rattle.cedar_names.specs.Names.{internal_cmp};
-ghost use Rattle.cedar_text.specs.Words.{has_word};
+ghost use Rattle.cedar_names.specs.of_text.Words.{has_word};
 ghost use Rattle.cedar_unfold.specs.Faults.{faults_by, attribute_faults_by};
 ghost use Rattle.cedar_unfold.specs.Following.{first_of};
 ghost use Rattle.cedar_unfold.specs.Heads.{IsRecord, attributes_of};

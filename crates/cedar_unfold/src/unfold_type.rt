@@ -3,7 +3,7 @@ ghost use Rattle.std.specs.Prelude.{◌≡◌, ◌+◌, ◌≤◌, Some, IfOk, O
 ghost use Rattle.std.specs.Option.{option_or};
 ghost use Rattle.cedar_names.specs.Components.{components};
 ghost use Rattle.cedar_names.specs.Extensions.{extension_words};
-ghost use Rattle.cedar_text.specs.Words.{has_word};
+ghost use Rattle.cedar_names.specs.of_text.Words.{has_word};
 ghost use Rattle.cedar_unfold.specs.Faults.{attribute_faults_by, entity_fault, faults_by};
 ghost use Rattle.cedar_unfold.specs.Finished.{entity_of, finished};
 ghost use Rattle.cedar_unfold.specs.Following.{first_of};

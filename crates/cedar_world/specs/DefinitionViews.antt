@@ -2,19 +2,19 @@
 -- The definitions that code holds, places aside.
 use Rattle.std.specs.Prelude.{map}
 use Rattle.std.specs.Option.{option_map}
-use Rattle.cedar_definitions.specs.declared.structures.ActionFragment.{ActionFragment}
-use Rattle.cedar_definitions.specs.declared.structures.EntityTypeFragment.{EntityTypeFragment}
-use Rattle.cedar_definitions.specs.declared.structures.EntityTypeFragment.TheVariants as code
-use Rattle.cedar_definitions.specs.declared.structures.ValidatorNamespaceDef.{ValidatorNamespaceDef}
-use Rattle.cedar_definitions.specs.ActionUids.{over_conditional}
+use Rattle.cedar_declared.specs.of_definitions.declared.structures.ActionFragment.{ActionFragment}
+use Rattle.cedar_declared.specs.of_definitions.declared.structures.EntityTypeFragment.{EntityTypeFragment}
+use Rattle.cedar_declared.specs.of_definitions.declared.structures.EntityTypeFragment.TheVariants as code
+use Rattle.cedar_declared.specs.of_definitions.declared.structures.ValidatorNamespaceDef.{ValidatorNamespaceDef}
+use Rattle.cedar_declared.specs.of_definitions.ActionUids.{over_conditional}
 use Rattle.cedar_names.specs.Components.{components}
 use Rattle.cedar_names.specs.Names.{entity_words}
 use Rattle.cedar_names.specs.declared.entity_uid.EntityUID.{EntityUID}
 use Rattle.cedar_names.specs.declared.internal_name.InternalName.{InternalName}
 use Rattle.cedar_names.specs.declared.name.EntityType.{EntityType}
-use Rattle.cedar_schema_error.specs.FullNames.{FullName, Uid, uid_in}
-use Rattle.cedar_schema_error.specs.NameReferences.{ActionReference, NameReference, action_reference_of, reference_of}
-use Rattle.cedar_text.specs.Lists.{elements}
+use Rattle.cedar_unfold.specs.of_schema_error.FullNames.{FullName, Uid, uid_in}
+use Rattle.cedar_unfold.specs.of_schema_error.NameReferences.{ActionReference, NameReference, action_reference_of, reference_of}
+use Rattle.cedar_names.specs.of_text.Lists.{elements}
 use Rattle.cedar_unfold.specs.Written.{Written}
 use Rattle.cedar_unfold.specs.WrittenViews.{written_type, written_variant}
 use Rattle.cedar_written.specs.declared.conditional_name.ConditionalName.{ConditionalName}

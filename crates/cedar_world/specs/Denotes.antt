@@ -5,8 +5,8 @@ use Rattle.std.specs.List.{AllZip}
 use Rattle.cedar_data.specs.Sets.{contains, IsSetOf}
 use Rattle.cedar_declared.specs.Names.{targets}
 use Rattle.cedar_names.specs.Order.{words_cmp}
-use Rattle.cedar_schema_error.specs.FullNames.{FullName, Uid, uid_cmp}
-use Rattle.cedar_schema_error.specs.NameReferences.{ActionReference, NameReference}
+use Rattle.cedar_unfold.specs.of_schema_error.FullNames.{FullName, Uid, uid_cmp}
+use Rattle.cedar_unfold.specs.of_schema_error.NameReferences.{ActionReference, NameReference}
 use Rattle.cedar_unfold.specs.Resolved.{Resolved}
 use Rattle.cedar_unfold.specs.Resolved as resolved
 use Rattle.cedar_unfold.specs.Unfolds.{Unfolds}

@@ -1,13 +1,13 @@
 -- SPDX-License-Identifier: Apache-2.0
 -- What descends from what.
 use Rattle.std.specs.Prelude.{◌≡◌, Some}
-use Rattle.cedar_closure.specs.Chains.{Reaches}
+use Rattle.cedar_unfold.specs.of_closure.Chains.{Reaches}
 use Rattle.cedar_data.specs.Firsts.{SomePasses}
 use Rattle.cedar_data.specs.Maps.{get}
 use Rattle.cedar_declared.specs.Names.{action_target, target}
 use Rattle.cedar_names.specs.Order.{words_cmp}
-use Rattle.cedar_schema_error.specs.FullNames.{FullName, Uid, uid_cmp}
-use Rattle.cedar_schema_error.specs.NameReferences.{ActionReference, NameReference}
+use Rattle.cedar_unfold.specs.of_schema_error.FullNames.{FullName, Uid, uid_cmp}
+use Rattle.cedar_unfold.specs.of_schema_error.NameReferences.{ActionReference, NameReference}
 use Rattle.cedar_world.specs.Definitions.{ActionDefinition, EntityDefinition, parents_of}
 use Rattle.cedar_world.specs.Worlds.{World, actions, entity_types, names}
 

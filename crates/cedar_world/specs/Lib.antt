@@ -1,4 +1,8 @@
 -- SPDX-License-Identifier: Apache-2.0
+pub mod of_unfold
+pub mod of_schema_error
+pub mod of_definitions
+pub mod of_declared
 pub mod Definitions
 pub mod DefinitionViews
 pub mod Worlds

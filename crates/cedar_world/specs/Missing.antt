@@ -4,8 +4,8 @@ use Rattle.std.specs.Prelude.{◌++◌, List, [], ◌∷◌, map}
 use Rattle.std.specs.List.{filter, filter_map, flat_map}
 use Rattle.cedar_declared.specs.Names.{Names, action_target, targets, undefined, undefined_actions}
 use Rattle.cedar_names.specs.Components.{has_cedar}
-use Rattle.cedar_schema_error.specs.FullNames.{FullName}
-use Rattle.cedar_schema_error.specs.NameReferences.{ActionReference, NameReference}
+use Rattle.cedar_unfold.specs.of_schema_error.FullNames.{FullName}
+use Rattle.cedar_unfold.specs.of_schema_error.NameReferences.{ActionReference, NameReference}
 use Rattle.cedar_unfold.specs.Written.{Written, references}
 use Rattle.cedar_world.specs.Definitions.{ActionDefinition, EntityDefinition, Namespace, parents_of, shape_of, tags_of}
 

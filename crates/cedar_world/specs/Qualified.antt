@@ -2,8 +2,8 @@
 -- Types with its target in place of each reference.
 use Rattle.std.specs.Prelude.{◌≡◌, ℕ, Bool, List, Option, Some}
 use Rattle.std.specs.List.{AllZip}
-use Rattle.cedar_schema_error.specs.FullNames.{FullName}
-use Rattle.cedar_schema_error.specs.Refusals.{UsePlace}
+use Rattle.cedar_unfold.specs.of_schema_error.FullNames.{FullName}
+use Rattle.cedar_unfold.specs.of_schema_error.Refusals.{UsePlace}
 use Rattle.cedar_unfold.specs.UnfoldPhases.{Job}
 use Rattle.cedar_unfold.specs.Written.{Written, WrittenAttributes, Boolean, Long, String, Extension, Set, Record, Entity, EntityOrCommon, CommonTypeRef, no_attributes, attribute}
 

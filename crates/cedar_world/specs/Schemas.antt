@@ -1,7 +1,7 @@
 -- SPDX-License-Identifier: Apache-2.0
 -- Schemas, places aside.
 use Rattle.std.specs.Prelude.{ℕ, Bool, List, Option}
-use Rattle.cedar_schema_error.specs.FullNames.{FullName, Uid}
+use Rattle.cedar_unfold.specs.of_schema_error.FullNames.{FullName, Uid}
 use Rattle.cedar_types.specs.declared.ty.Attributes.{Attributes}
 use Rattle.cedar_types.specs.declared.value.ValueMap.{ValueMap}
 use Rattle.cedar_unfold.specs.Resolved.{Resolved, ResolvedAttributes}

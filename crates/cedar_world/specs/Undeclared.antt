@@ -5,8 +5,8 @@ use Rattle.std.specs.List.{flat_map}
 use Rattle.cedar_data.specs.Sets.{contains}
 use Rattle.cedar_declared.specs.Names.{is_entity, targets}
 use Rattle.cedar_names.specs.Order.{words_cmp}
-use Rattle.cedar_schema_error.specs.FullNames.{FullName}
-use Rattle.cedar_schema_error.specs.NameReferences.{ActionReference, NameReference}
+use Rattle.cedar_unfold.specs.of_schema_error.FullNames.{FullName}
+use Rattle.cedar_unfold.specs.of_schema_error.NameReferences.{ActionReference, NameReference}
 use Rattle.cedar_unfold.specs.Written.{Written, WrittenAttributes, Boolean, Long, String, Extension, Set, Record, Entity, EntityOrCommon, CommonTypeRef, no_attributes, attribute}
 use Rattle.cedar_world.specs.Definitions.{ActionDefinition, EntityDefinition, parents_of}
 use Rattle.cedar_world.specs.Worlds.{World, actions, common_types, entity_types, names, uses}

@@ -6,10 +6,10 @@ use Rattle.std.specs.Map.{keys_of}
 use Rattle.cedar_data.specs.Maps.{map_of}
 use Rattle.cedar_declared.specs.Names.{Names, is_common, is_entity, target}
 use Rattle.cedar_names.specs.Order.{words_cmp}
-use Rattle.cedar_schema_error.specs.FullNames.{FullName, Uid, uid_cmp}
-use Rattle.cedar_schema_error.specs.NameReferences.{ActionReference, NameReference}
-use Rattle.cedar_schema_error.specs.Refusals.{UsePlace, Context, Shape, Tags}
-use Rattle.cedar_text.specs.Words.{has_word, primitive_words}
+use Rattle.cedar_unfold.specs.of_schema_error.FullNames.{FullName, Uid, uid_cmp}
+use Rattle.cedar_unfold.specs.of_schema_error.NameReferences.{ActionReference, NameReference}
+use Rattle.cedar_unfold.specs.of_schema_error.Refusals.{UsePlace, Context, Shape, Tags}
+use Rattle.cedar_names.specs.of_text.Words.{has_word, primitive_words}
 use Rattle.cedar_unfold.specs.Meanings.{Meanings}
 use Rattle.cedar_unfold.specs.UnfoldPhases.{Job}
 use Rattle.cedar_unfold.specs.Written.{Written, Boolean, Long, String, Extension, EntityOrCommon}

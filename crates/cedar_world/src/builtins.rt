@@ -2,23 +2,23 @@
 ghost use Rattle.std.specs.Prelude.{◌≡◌, ◌++◌, [], ◌∷◌, map, codes, IfOk, OnOk};
 ghost use Rattle.cedar_data.specs.Maps.{map_of};
 ghost use Rattle.cedar_declared.specs.Held.{names_of};
-ghost use Rattle.cedar_definitions.specs.Structures.{definitions_of};
+ghost use Rattle.cedar_declared.specs.of_definitions.Structures.{definitions_of};
 ghost use Rattle.cedar_names.specs.Components.{components};
 ghost use Rattle.cedar_names.specs.Extensions.{extension_words};
 ghost use Rattle.cedar_names.specs.Identifiers.{unreserved_word};
 ghost use Rattle.cedar_names.specs.Order.{words_cmp};
-ghost use Rattle.cedar_text.specs.Words.{primitive_words};
+ghost use Rattle.cedar_names.specs.of_text.Words.{primitive_words};
 ghost use Rattle.cedar_world.specs.DefinitionViews.{common_type_in, namespace_in, variant_in};
 ghost use Rattle.cedar_world.specs.Definitions.{of_common_types};
 ghost use Rattle.cedar_world.specs.Worlds.{aliases, aliases_among, builtin_name, builtin_namespaces, builtins, primitives};
 
 use cedar_data::{Dup, Map, Mem};
-use cedar_declared::AllDefs;
-use cedar_definitions::{
-    ActionsDef, CommonTypeDefs, EntityTypesDef, ValidatorNamespaceDef, ValidatorSchemaFragment,
+use cedar_declared::{
+    ActionsDef, AllDefs, CommonTypeDefs, EntityTypesDef, ValidatorNamespaceDef,
+    ValidatorSchemaFragment,
 };
 use cedar_names::{Extensions, InternalName, UnreservedId};
-use cedar_written::{ConditionalName, ReferenceType, SchemaType, TypeVariant};
+use cedar_unfold::{ConditionalName, ReferenceType, SchemaType, TypeVariant};
 use std::alloc::Global;
 
 /// A common type under its name.

@@ -5,3 +5,8 @@
 mod builtins;
 
 pub use builtins::builtin_definitions;
+pub use cedar_declared::{
+    ActionFragment, AllDefs, EntityTypeFragment, EntityTypesDef, ValidatorApplySpec,
+    ValidatorNamespaceDef,
+};
+pub use cedar_unfold::{ActionEntityUID, Attributes, AttributesOrContext, UsePlace, ValueMap};

@@ -1,7 +1,7 @@
 -- SPDX-License-Identifier: Apache-2.0
 -- A loop over attributes that looks for an extension type.
 use Rattle.std.proofs.Common.{◌≡◌, Bool, true, false, ◌||◌, List, [], ◌∷◌, ◌++◌, Option, Some, None, refl, ap, sym, ◌∙◌, append_assoc}
-use Rattle.cedar_data.specs.Maps.{map_values}
+use Rattle.cedar_print.specs.of_data.Maps.{map_values}
 use Rattle.cedar_written.specs.WrittenTypes.{any_extension, either}
 
 -- a loop over `whole` that has `left` before it has found so much

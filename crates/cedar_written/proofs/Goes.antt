@@ -7,10 +7,10 @@ use Rattle.std.specs.declared.result.Result.TheVariants.{Ok, Err}
 use Rattle.std.specs.declared.cmp.Ordering.{Ordering}
 use Rattle.std.specs.List.Sorted.{IsStrictlySortedBy}
 use Rattle.std.specs.Map.{keys_of}
-use Rattle.cedar_data.specs.declared.memory.Failure.{Failure}
-use Rattle.cedar_data.specs.declared.memory.Failure.TheVariants.{Refused, NoMemory}
-use Rattle.cedar_data.specs.Maps.{IsSortedMap, map_values}
-use Rattle.cedar_data.proofs.Rebuild.{sorted_next}
+use Rattle.cedar_print.specs.of_data.declared.memory.Failure.{Failure}
+use Rattle.cedar_print.specs.of_data.declared.memory.Failure.TheVariants.{Refused, NoMemory}
+use Rattle.cedar_print.specs.of_data.Maps.{IsSortedMap, map_values}
+use Rattle.cedar_print.proofs.of_data.Rebuild.{sorted_next}
 use Rattle.cedar_written.specs.Answers.{Answers, and_then, all_items, all_values}
 
 -- a refusal of a part is a refusal of the whole

@@ -2,10 +2,10 @@
 -- Names that are known by their words.
 use Rattle.std.proofs.Common.{◌≡◌, ℕ, List, [], None, IsTrue, codes, ap, subst, ◌∙◌}
 use Rattle.std.proofs.Props.{props}
-use Rattle.cedar_text.specs.Words.{is_id}
-use Rattle.cedar_names.specs.Components.{internal_name}
-use Rattle.cedar_names.specs.Identifiers.{id_word}
-use Rattle.cedar_names.specs.declared.id.Id.{Id}
+use Rattle.cedar_print.specs.of_text.Words.{is_id}
+use Rattle.cedar_print.specs.of_names.Components.{internal_name}
+use Rattle.cedar_print.specs.of_names.Identifiers.{id_word}
+use Rattle.cedar_print.specs.of_names.declared.id.Id.{Id}
 use Rattle.cedar_written.specs.Possibilities.{raw_name, written}
 use Rattle.cedar_written.specs.Qualifying.{action_id, action_name}
 use Rattle.cedar_written.specs.declared.raw_name.RawName.{RawName}

@@ -1,11 +1,11 @@
 -- SPDX-License-Identifier: Apache-2.0
 -- The possibilities of a name, one by one.
 use Rattle.std.proofs.Common.{◌≡◌, List, [], ◌∷◌, Option, Some, None, refl, sym, ap, ◌∙◌}
-use Rattle.cedar_text.specs.declared.location.Loc.{Loc}
-use Rattle.cedar_text.specs.declared.non_empty.NonEmpty.{NonEmpty}
-use Rattle.cedar_names.specs.Components.{internal_name, qualified, qualified_in}
-use Rattle.cedar_names.specs.declared.id.Id.{Id}
-use Rattle.cedar_names.specs.declared.internal_name.InternalName.{InternalName}
+use Rattle.cedar_print.specs.of_text.declared.location.Loc.{Loc}
+use Rattle.cedar_print.specs.of_text.declared.non_empty.NonEmpty.{NonEmpty}
+use Rattle.cedar_print.specs.of_names.Components.{internal_name, qualified, qualified_in}
+use Rattle.cedar_print.specs.of_names.declared.id.Id.{Id}
+use Rattle.cedar_print.specs.of_names.declared.internal_name.InternalName.{InternalName}
 use Rattle.cedar_written.specs.Possibilities.{conditional, conditional_in, ids_of, leading, possibilities, possibilities_in, reference, written}
 use Rattle.cedar_written.specs.declared.conditional_name.ConditionalName.{ConditionalName}
 use Rattle.cedar_written.specs.declared.raw_name.RawName.{RawName}

@@ -1,7 +1,7 @@
 -- SPDX-License-Identifier: Apache-2.0
 -- What printed types are made of, and which parts hold no names.
 use Rattle.std.proofs.Common.{◌≡◌, ℕ, Bool, true, false, List, ◌++◌, Option, refl, ap}
-use Rattle.cedar_data.specs.Maps.{map_values}
+use Rattle.cedar_print.specs.of_data.Maps.{map_values}
 use Rattle.cedar_print.specs.Annotations.{annotations_pieces, nameless}
 use Rattle.cedar_print.specs.Pieces.{Pieces, text_of, unless_first}
 use Rattle.cedar_written.specs.Printed.{OfAttribute, attribute_printed, attributes_printed, name_printed, next_line, print_attribute, print_record, print_type, record_printed, type_printed, variant_printed}

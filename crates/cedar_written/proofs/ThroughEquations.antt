@@ -3,14 +3,14 @@
 use Rattle.std.proofs.Common.{◌≡◌, ℕ, Bool, List, Option}
 use Rattle.std.specs.declared.result.Result.{Result}
 use Rattle.std.specs.declared.result.Result.TheVariants.{Ok}
-use Rattle.cedar_data.specs.Maps.{map_values}
+use Rattle.cedar_print.specs.of_data.Maps.{map_values}
 use Rattle.cedar_written.specs.Answers.{and_then, all_values}
 use Rattle.cedar_written.specs.Through.{through_type, through_variant, through_record, through_attribute, type_step, variant_step, record_step, attribute_step}
 use Rattle.cedar_written.specs.Reference.{Reference, named}
 use Rattle.cedar_written.specs.declared.reference_type.ReferenceType.TheVariants as kind
-use Rattle.cedar_text.specs.declared.location.Loc.{Loc}
-use Rattle.cedar_names.specs.declared.annotation.Annotations.{Annotations}
-use Rattle.cedar_names.specs.declared.id.UnreservedId.{UnreservedId}
+use Rattle.cedar_print.specs.of_text.declared.location.Loc.{Loc}
+use Rattle.cedar_print.specs.of_names.declared.annotation.Annotations.{Annotations}
+use Rattle.cedar_print.specs.of_names.declared.id.UnreservedId.{UnreservedId}
 use Rattle.cedar_written.specs.declared.ty.SchemaType.{SchemaType}
 use Rattle.cedar_written.specs.declared.ty.SchemaType.TheVariants as type
 use Rattle.cedar_written.specs.declared.ty.TypeVariant.{TypeVariant}

@@ -1,10 +1,10 @@
 -- SPDX-License-Identifier: Apache-2.0
 -- The equations of a definition by recursion over types, for each way to make one.
 use Rattle.std.proofs.Common.{◌≡◌, ℕ, Bool, List, Option, ap, sym, ◌∙◌}
-use Rattle.cedar_data.specs.Maps.{map_values}
-use Rattle.cedar_text.specs.declared.location.Loc.{Loc}
-use Rattle.cedar_names.specs.declared.annotation.Annotations.{Annotations}
-use Rattle.cedar_names.specs.declared.id.UnreservedId.{UnreservedId}
+use Rattle.cedar_print.specs.of_data.Maps.{map_values}
+use Rattle.cedar_print.specs.of_text.declared.location.Loc.{Loc}
+use Rattle.cedar_print.specs.of_names.declared.annotation.Annotations.{Annotations}
+use Rattle.cedar_print.specs.of_names.declared.id.UnreservedId.{UnreservedId}
 use Rattle.cedar_written.specs.declared.ty.SchemaType.{SchemaType, fold-SchemaType, fold-roll-SchemaType}
 use Rattle.cedar_written.specs.declared.ty.SchemaType.TheVariants as type
 use Rattle.cedar_written.specs.declared.ty.SchemaType.TheOpen as layer

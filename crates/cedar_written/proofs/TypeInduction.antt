@@ -2,9 +2,9 @@
 -- Induction over types, with a case for each way to make one.
 use Rattle.std.proofs.Common.{ℕ, Bool, List, [], ◌∷◌, Option, map, subst, sym}
 use Rattle.std.specs.List.{AllByRecursion}
-use Rattle.cedar_text.specs.declared.location.Loc.{Loc}
-use Rattle.cedar_names.specs.declared.annotation.Annotations.{Annotations}
-use Rattle.cedar_names.specs.declared.id.UnreservedId.{UnreservedId}
+use Rattle.cedar_print.specs.of_text.declared.location.Loc.{Loc}
+use Rattle.cedar_print.specs.of_names.declared.annotation.Annotations.{Annotations}
+use Rattle.cedar_print.specs.of_names.declared.id.UnreservedId.{UnreservedId}
 use Rattle.cedar_written.specs.declared.ty.SchemaType.{SchemaType, roll-SchemaType, ind-SchemaType, map-SchemaType}
 use Rattle.cedar_written.specs.declared.ty.SchemaType.TheVariants as type
 use Rattle.cedar_written.specs.declared.ty.SchemaType.TheOpen as layer

@@ -1,8 +1,8 @@
 -- SPDX-License-Identifier: Apache-2.0
 -- Identifiers of common types, and the words that they may not be.
 use Rattle.std.specs.Prelude.{ℕ, Bool, List, [], ◌∷◌, ◌++◌, codes}
-use Rattle.cedar_text.specs.Words.{has_word}
-use Rattle.cedar_names.specs.declared.id.UnreservedId.{UnreservedId}
+use Rattle.cedar_print.specs.of_text.Words.{has_word}
+use Rattle.cedar_print.specs.of_names.declared.id.UnreservedId.{UnreservedId}
 use Rattle.cedar_written.specs.declared.common_type_id.CommonTypeId.{CommonTypeId}
 
 -- the identifier of a common type

@@ -1,6 +1,6 @@
 -- SPDX-License-Identifier: Apache-2.0
-pub use Rattle.cedar_text.specs.FaultTexts
-pub use Rattle.cedar_names.specs.Identifiers
+pub use Rattle.cedar_print.specs.of_text.FaultTexts
+pub use Rattle.cedar_print.specs.of_names.Identifiers
 pub mod Answers
 pub mod Bare
 pub mod CommonTypeIds

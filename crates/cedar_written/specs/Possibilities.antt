@@ -2,10 +2,10 @@
 -- Names as a schema writes them, and the full names that they may stand for.
 use Rattle.std.specs.Prelude.{List, [], ◌∷◌, Option, Some, None}
 use Rattle.std.specs.Option.{option_map}
-use Rattle.cedar_text.specs.declared.non_empty.NonEmpty.{NonEmpty}
-use Rattle.cedar_names.specs.Components.{all_ids, namespace_of, qualified, qualified_in}
-use Rattle.cedar_names.specs.declared.id.Id.{Id}
-use Rattle.cedar_names.specs.declared.internal_name.InternalName.{InternalName}
+use Rattle.cedar_print.specs.of_text.declared.non_empty.NonEmpty.{NonEmpty}
+use Rattle.cedar_print.specs.of_names.Components.{all_ids, namespace_of, qualified, qualified_in}
+use Rattle.cedar_print.specs.of_names.declared.id.Id.{Id}
+use Rattle.cedar_print.specs.of_names.declared.internal_name.InternalName.{InternalName}
 use Rattle.cedar_written.specs.declared.conditional_name.ConditionalName.{ConditionalName}
 use Rattle.cedar_written.specs.declared.raw_name.RawName.{RawName}
 use Rattle.cedar_written.specs.declared.reference_type.ReferenceType.{ReferenceType}

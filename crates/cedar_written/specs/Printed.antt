@@ -1,7 +1,7 @@
 -- SPDX-License-Identifier: Apache-2.0
 -- Types as the human syntax writes them: a list of tokens with blanks between them.
 use Rattle.std.specs.Prelude.{ℕ, Bool, true, false, List, [], ◌∷◌, ◌++◌, codes}
-use Rattle.cedar_names.specs.Identifiers.{unreserved_word}
+use Rattle.cedar_print.specs.of_names.Identifiers.{unreserved_word}
 use Rattle.cedar_print.specs.Annotations.{annotations_pieces}
 use Rattle.cedar_print.specs.Pieces.{Piece, Pieces, word, mark, quoted, name, blank, space, named, separated}
 use Rattle.cedar_written.specs.declared.ty.SchemaType.{SchemaType, fold-SchemaType}

@@ -3,9 +3,9 @@
 use Rattle.std.specs.Prelude.{[], Option, None, refl, unwrap_or, codes}
 use Rattle.std.specs.declared.result.Result.{Result}
 use Rattle.std.specs.declared.result.Result.TheVariants.{Ok}
-use Rattle.cedar_names.specs.Components.{internal_name}
-use Rattle.cedar_names.specs.declared.id.Id.{Id}
-use Rattle.cedar_names.specs.declared.internal_name.InternalName.{InternalName}
+use Rattle.cedar_print.specs.of_names.Components.{internal_name}
+use Rattle.cedar_print.specs.of_names.declared.id.Id.{Id}
+use Rattle.cedar_print.specs.of_names.declared.internal_name.InternalName.{InternalName}
 use Rattle.cedar_written.specs.Possibilities.{conditional, raw_name}
 use Rattle.cedar_written.specs.Reference.{Reference, named, parent}
 use Rattle.cedar_written.specs.declared.conditional_name.ConditionalName.{ConditionalName}

@@ -3,7 +3,7 @@
 use Rattle.std.specs.Prelude.{ℕ, List, map}
 use Rattle.std.specs.declared.result.Result.{Result}
 use Rattle.std.specs.declared.result.Result.TheVariants.{Ok}
-use Rattle.cedar_data.specs.Maps.{map_values}
+use Rattle.cedar_print.specs.of_data.Maps.{map_values}
 use Rattle.cedar_written.specs.Answers.{and_then, all_items, all_values}
 use Rattle.cedar_written.specs.Reference.{Reference, named}
 use Rattle.cedar_written.specs.declared.reference_type.ReferenceType.{ReferenceType}

@@ -1,7 +1,7 @@
 -- SPDX-License-Identifier: Apache-2.0
 -- Types as a schema writes them: their parts, empty records, and extension types.
 use Rattle.std.specs.Prelude.{◌≡◌, Bool, true, false, ◌||◌, List, [], ◌∷◌, Option, Some, None}
-use Rattle.cedar_text.specs.declared.location.Loc.{Loc}
+use Rattle.cedar_print.specs.of_text.declared.location.Loc.{Loc}
 use Rattle.cedar_written.specs.declared.ty.SchemaType.{SchemaType, out-SchemaType, fold-SchemaType}
 use Rattle.cedar_written.specs.declared.ty.SchemaType.TheVariants as type
 use Rattle.cedar_written.specs.declared.ty.SchemaType.TheOpen as layer

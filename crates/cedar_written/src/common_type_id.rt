@@ -1,11 +1,9 @@
 // SPDX-License-Identifier: Apache-2.0
 ghost use Rattle.std.specs.Prelude.{◌≡◌, [], ◌++◌, None, Some, true, false, IfOk, MatchResult, codes};
-ghost use Rattle.cedar_names.specs.Identifiers.{unreserved_word};
+ghost use Rattle.cedar_print.specs.of_names.Identifiers.{unreserved_word};
 ghost use Rattle.cedar_written.specs.CommonTypeIds.{common_id, is_reserved_basename, reserved_basename_text, unreserved_of};
 
-use cedar_data::{Dup, Mem};
-use cedar_names::UnreservedId;
-use cedar_text::Span;
+use cedar_print::{Dup, Mem, Span, UnreservedId};
 use std::alloc::Global;
 use std::error::Error;
 use std::fmt;

@@ -1,15 +1,13 @@
 // SPDX-License-Identifier: Apache-2.0
 ghost use Rattle.std.specs.Prelude.{◌≡◌, IfOk};
 ghost use Rattle.std.specs.Option.{option_copied};
-ghost use Rattle.cedar_text.specs.Lists.{elements, elements_left};
-ghost use Rattle.cedar_names.specs.Components.{loc_of};
+ghost use Rattle.cedar_print.specs.of_text.Lists.{elements, elements_left};
+ghost use Rattle.cedar_print.specs.of_names.Components.{loc_of};
 ghost use Rattle.cedar_written.specs.Possibilities.{kind_of, possibilities_of, raw_of, reference, unconditional, written};
 
 use crate::raw_name::RawName;
 use crate::reference_type::ReferenceType;
-use cedar_data::{Boxed, Dup, Mem};
-use cedar_names::InternalName;
-use cedar_text::{Loc, NonEmpty, NonEmptyIter};
+use cedar_print::{Boxed, Dup, InternalName, Loc, Mem, NonEmpty, NonEmptyIter};
 use std::alloc::Global;
 use std::fmt;
 
@@ -106,8 +104,8 @@ impl ConditionalName {
 /// As it is written.
 impl fmt::Display for ConditionalName {
     ghost use Rattle.std.specs.Prelude.{Some};
-    ghost use Rattle.cedar_text.specs.Joining.{joined};
-    ghost use Rattle.cedar_names.specs.Components.{components};
+    ghost use Rattle.cedar_print.specs.of_text.Joining.{joined};
+    ghost use Rattle.cedar_print.specs.of_names.Components.{components};
 
     ghost output = { λ n. Some (joined (components (written (raw_of n)))) };
 

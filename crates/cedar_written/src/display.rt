@@ -1,13 +1,12 @@
 // SPDX-License-Identifier: Apache-2.0
 ghost use Rattle.std.specs.Fmt.{DisplaysOnOk};
-ghost use Rattle.cedar_data.specs.Maps.{map_values};
+ghost use Rattle.cedar_print.specs.of_data.Maps.{map_values};
 ghost use Rattle.cedar_print.specs.Annotations.{nameless};
 ghost use Rattle.cedar_print.specs.Pieces.{separated, text_of, unless_first};
 ghost use Rattle.cedar_written.specs.Printed.{name_printed, next_line, print_attribute, print_record, print_type, print_variant, set_end, set_head, set_printed, with_name};
 
 use crate::ty::{RecordType, SchemaType, TypeOfAttribute, TypeVariant};
-use cedar_data::{Map, Text};
-use cedar_print::{Quoted, write_annotations, write_item};
+use cedar_print::{Map, Quoted, Text, write_annotations, write_item};
 use std::fmt::{self, Display};
 
 /// As the human syntax writes it, with each name as it is displayed.

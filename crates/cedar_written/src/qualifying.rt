@@ -2,7 +2,7 @@
 ghost use Rattle.std.specs.Prelude.{◌≡◌, IfOk, unwrap_or};
 ghost use Rattle.std.specs.Coded.{Coded-set};
 ghost use Rattle.std.specs.Option.{option_copied};
-ghost use Rattle.cedar_names.specs.Components.{qualified};
+ghost use Rattle.cedar_print.specs.of_names.Components.{qualified};
 ghost use Rattle.cedar_written.specs.Answers.{Answers, Makes};
 ghost use Rattle.cedar_written.specs.Bare.{bare_type};
 ghost use Rattle.cedar_written.specs.Possibilities.{conditional, ids_of};
@@ -16,8 +16,7 @@ use crate::reference_type::ReferenceType;
 use crate::step::Step;
 use crate::ty::{RecordType, SchemaType, TypeOfAttribute, TypeVariant};
 use crate::walked::Walk;
-use cedar_data::{Failure, Mem, NoMemory, Out, Text};
-use cedar_names::{InternalName, Namespace, UnreservedId};
+use cedar_print::{Failure, InternalName, Mem, Namespace, NoMemory, Out, Text, UnreservedId};
 use std::alloc::Global;
 
 /// A refusal that never comes.

@@ -1,20 +1,20 @@
 // SPDX-License-Identifier: Apache-2.0
 ghost use Rattle.std.specs.Prelude.{◌≡◌, ◌≢◌, [], ◌∷◌, ◌↔◌, None, Some, IsTrue, IfOk};
 ghost use Rattle.std.specs.Option.{option_copied, option_map};
-ghost use Rattle.cedar_text.specs.Failures.{IfRefused};
-ghost use Rattle.cedar_text.specs.Faults.{no_id, word_fault};
-ghost use Rattle.cedar_text.specs.Joining.{joined};
-ghost use Rattle.cedar_text.specs.NormalNames.{name_fault, parts};
-ghost use Rattle.cedar_names.specs.Components.{components, internal_name, loc_of, namespace_of, qualified};
-ghost use Rattle.cedar_names.specs.Identifiers.{id_of};
-ghost use Rattle.cedar_names.specs.Names.{internal_of};
+ghost use Rattle.cedar_print.specs.of_text.Failures.{IfRefused};
+ghost use Rattle.cedar_print.specs.of_text.Faults.{no_id, word_fault};
+ghost use Rattle.cedar_print.specs.of_text.Joining.{joined};
+ghost use Rattle.cedar_print.specs.of_text.NormalNames.{name_fault, parts};
+ghost use Rattle.cedar_print.specs.of_names.Components.{components, internal_name, loc_of, namespace_of, qualified};
+ghost use Rattle.cedar_print.specs.of_names.Identifiers.{id_of};
+ghost use Rattle.cedar_print.specs.of_names.Names.{internal_of};
 ghost use Rattle.cedar_written.specs.Possibilities.{conditional, conditional_in, first_possibility, ids_of, possibilities_in, raw_name, written};
 
 use crate::conditional_name::ConditionalName;
 use crate::reference_type::ReferenceType;
-use cedar_data::{Dup, Items, Mem, Out};
-use cedar_names::{Id, InternalName, Name, Namespace, UnreservedId};
-use cedar_text::{Loc, NameFault, NonEmpty};
+use cedar_print::{
+    Dup, Id, InternalName, Items, Loc, Mem, Name, NameFault, Namespace, NonEmpty, Out, UnreservedId,
+};
 use std::alloc::Global;
 use std::fmt;
 

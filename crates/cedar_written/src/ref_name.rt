@@ -3,7 +3,7 @@ ghost use Rattle.std.specs.Prelude.{Bool, true, false};
 
 use crate::conditional_name::ConditionalName;
 use crate::raw_name::RawName;
-use cedar_names::{InternalName, Name};
+use cedar_print::{InternalName, Name};
 
 /// Names that may stand in a fragment.
 pub trait RefName {

@@ -1,5 +1,5 @@
 // SPDX-License-Identifier: Apache-2.0
-use cedar_data::{Dup, Mem};
+use cedar_print::{Dup, Mem};
 use std::alloc::Global;
 
 /// Which kinds of types a name may stand for at its place.

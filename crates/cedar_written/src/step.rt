@@ -5,7 +5,7 @@ ghost use Rattle.cedar_written.specs.Answers.{Answers};
 
 use crate::ref_name::RefName;
 use crate::reference_type::ReferenceType;
-use cedar_data::{Out, Text};
+use cedar_print::{Out, Text};
 use std::alloc::Global;
 
 /// What becomes of each name, or why it is refused.

@@ -1,7 +1,5 @@
 // SPDX-License-Identifier: Apache-2.0
-use cedar_data::{Boxed, Map, Text};
-use cedar_names::{Annotations, UnreservedId};
-use cedar_text::Loc;
+use cedar_print::{Annotations, Boxed, Loc, Map, Text, UnreservedId};
 
 /// A type over names `N`. Comparisons leave the place out.
 #[cycle(ty)]

@@ -1,13 +1,12 @@
 // SPDX-License-Identifier: Apache-2.0
 ghost use Rattle.std.specs.Prelude.{◌≡◌, ◌↔◌, None, IsTrue};
 ghost use Rattle.std.specs.Option.{option_copied};
-ghost use Rattle.cedar_data.specs.Maps.{map_values};
+ghost use Rattle.cedar_print.specs.of_data.Maps.{map_values};
 ghost use Rattle.cedar_written.specs.WrittenTypes.{IsEmptyRecord, IsEmptyType, any_extension, attribute_extension, empty_record, place_of_type, record_extension, type_at, type_extension, variant_extension};
 ghost use Rattle.cedar_written.specs.declared.ty.SchemaType.TheVariants as type;
 
 use crate::ty::{RecordType, SchemaType, TypeOfAttribute, TypeVariant};
-use cedar_data::{Map, Text};
-use cedar_text::Loc;
+use cedar_print::{Loc, Map, Text};
 use std::alloc::Global;
 
 impl<N> RecordType<N> {

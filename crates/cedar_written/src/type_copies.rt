@@ -2,7 +2,7 @@
 ghost use Rattle.std.specs.Prelude.{◌≡◌, IfOk};
 
 use crate::ty::{RecordType, SchemaType, TypeOfAttribute, TypeVariant};
-use cedar_data::{Boxed, Dup, Map, Mem, Text};
+use cedar_print::{Boxed, Dup, Map, Mem, Text};
 use std::alloc::Global;
 
 impl<N: Dup + Drop> Dup for SchemaType<N> {

@@ -5,7 +5,7 @@ ghost use Rattle.cedar_written.specs.Through.{through_type, through_variant, thr
 use crate::reference_type::ReferenceType;
 use crate::step::Step;
 use crate::ty::{RecordType, SchemaType, TypeOfAttribute, TypeVariant};
-use cedar_data::{Boxed, Map, Out, Text};
+use cedar_print::{Boxed, Map, Out, Text};
 use std::alloc::Global;
 
 /// The type with what comes of each name in its place, or the first refusal.

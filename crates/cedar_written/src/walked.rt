@@ -2,7 +2,7 @@
 ghost use Rattle.std.specs.Prelude.{map};
 ghost use Rattle.std.specs.Option.{option_map};
 ghost use Rattle.std.specs.declared.result.Result.{Result};
-ghost use Rattle.cedar_data.specs.Maps.{map_values};
+ghost use Rattle.cedar_print.specs.of_data.Maps.{map_values};
 ghost use Rattle.cedar_written.specs.Answers.{Answers, all_items, all_values, in_option};
 ghost use Rattle.cedar_written.specs.Through.{through_attribute, through_names, through_record, through_type, through_variant};
 
@@ -10,7 +10,7 @@ use crate::reference_type::ReferenceType;
 use crate::step::Step;
 use crate::ty::{RecordType, SchemaType, TypeOfAttribute, TypeVariant};
 use crate::walk::{walk_attribute, walk_record, walk_type, walk_variant};
-use cedar_data::{Items, Map, Out};
+use cedar_print::{Items, Map, Out};
 use std::alloc::Global;
 
 /// What has names that a step can be taken through.

@@ -1,5 +1,5 @@
 -- SPDX-License-Identifier: Apache-2.0
-use Rattle.cedar_data.proofs.Rebuild.{insert_entry-last}
+use Rattle.cedar_names.proofs.of_data.Rebuild.{insert_entry-last}
 use Rattle.cedar_closure.proofs.closure.append_entry.Goals as goal
 
 pub returns : goal.returns

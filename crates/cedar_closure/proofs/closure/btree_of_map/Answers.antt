@@ -1,6 +1,6 @@
 -- SPDX-License-Identifier: Apache-2.0
 use Rattle.std.proofs.Common.{refl}
-use Rattle.cedar_data.proofs.Rebuild.{sorted_next}
+use Rattle.cedar_names.proofs.of_data.Rebuild.{sorted_next}
 use Rattle.cedar_closure.proofs.closure.btree_of_map.Goals as goal
 
 pub append_entry-requires : goal.append_entry-requires

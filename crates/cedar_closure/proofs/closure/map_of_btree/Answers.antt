@@ -1,6 +1,6 @@
 -- SPDX-License-Identifier: Apache-2.0
 use Rattle.std.proofs.Common.{refl}
-use Rattle.cedar_data.proofs.Rebuild.{sorted_next}
+use Rattle.cedar_names.proofs.of_data.Rebuild.{sorted_next}
 use Rattle.cedar_closure.proofs.closure.map_of_btree.Goals as goal
 
 pub push_last-requires : goal.push_last-requires

@@ -3,7 +3,7 @@ use Rattle.std.proofs.Common.{◌≡◌, ◌++◌, sym, ap, ◌∙◌, subst}
 use Rattle.std.proofs.lemmas.Iterator.{items_from_drains}
 use Rattle.std.proofs.lemmas.Iterator.Adapters.{YieldsList-from_vec}
 use Rattle.std.proofs.lemmas.List.{map-id}
-use Rattle.cedar_data.specs.Sets.{contains}
+use Rattle.cedar_names.specs.of_data.Sets.{contains}
 use Rattle.cedar_closure.specs.Places.{PutsInOrder}
 use Rattle.cedar_closure.proofs.key_graph.in_order.Goals as goal
 

@@ -1,7 +1,7 @@
 -- SPDX-License-Identifier: Apache-2.0
 use Rattle.std.proofs.Common.{[], ◌∷◌}
 use Rattle.std.specs.Prelude.{codes}
-use Rattle.cedar_text.specs.Lists.{elements}
+use Rattle.cedar_types.specs.of_text.Lists.{elements}
 use Rattle.cedar_print.specs.Annotations.{nameless}
 use Rattle.cedar_print.specs.Pieces.{bracketed, quoted_alone, space, word}
 use Rattle.cedar_print.proofs.Prints.{Shows-two}

@@ -4,7 +4,7 @@ use Rattle.std.proofs.lemmas.List.{append-nil}
 use Rattle.std.specs.Fmt.{DisplaysOnOk}
 use Rattle.std.specs.Prelude.{codes}
 use Rattle.std.specs.declared.result.Result.TheVariants.{Ok}
-use Rattle.cedar_names.specs.Identifiers.{unreserved_word}
+use Rattle.cedar_types.specs.of_names.Identifiers.{unreserved_word}
 use Rattle.cedar_print.specs.Annotations.{nameless}
 use Rattle.cedar_print.specs.Pieces.{mark, space, word}
 use Rattle.cedar_print.proofs.Prints.{Shows-three}

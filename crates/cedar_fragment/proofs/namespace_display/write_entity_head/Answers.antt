@@ -3,7 +3,7 @@ use Rattle.std.proofs.Common.{[], ◌∷◌, Some, sym, subst, ◌∙◌}
 use Rattle.std.proofs.lemmas.List.{append-nil}
 use Rattle.std.specs.Fmt.{DisplaysOnOk}
 use Rattle.std.specs.Prelude.{codes}
-use Rattle.cedar_names.specs.Identifiers.{unreserved_word}
+use Rattle.cedar_types.specs.of_names.Identifiers.{unreserved_word}
 use Rattle.cedar_print.specs.Annotations.{nameless}
 use Rattle.cedar_print.specs.Pieces.{space, word}
 use Rattle.cedar_print.proofs.Prints.{Shows-two}

@@ -20,8 +20,8 @@ use Rattle.cedar_schema_error.specs.Refusals.{CycleInActionHierarchy}
 use Rattle.cedar_schema_error.specs.Told.{told}
 use Rattle.cedar_tables.specs.Outlines.{action_outline_in, entity_outline_in}
 use Rattle.cedar_undeclared.specs.Undeclared.{is_free, undeclared_refusal}
-use Rattle.cedar_world.specs.Denotes.{Denotes}
-use Rattle.cedar_world.specs.Worlds.{World}
+use Rattle.cedar_qualified.specs.of_world.Denotes.{Denotes}
+use Rattle.cedar_qualified.specs.of_world.Worlds.{World}
 
 pub returns-in-Ok-clause-passes : goal.returns-in-Ok-clause-passes
 returns-in-Ok-clause-passes c =

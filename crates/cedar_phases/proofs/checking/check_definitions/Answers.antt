@@ -1,16 +1,16 @@
 -- SPDX-License-Identifier: Apache-2.0
 use Rattle.std.proofs.Common.{◌≡◌, inl, inr, Some, subst}
 use Rattle.cedar_declared.specs.Held.{names_of}
-use Rattle.cedar_definitions.specs.Structures.{definitions_of}
-use Rattle.cedar_duplicates.specs.Duplicates.{AreOnce, IsTwice}
-use Rattle.cedar_missing.specs.Undeclared.{missing_in_definition, missing_in_each, refusal_of}
+use Rattle.cedar_declared.specs.of_definitions.Structures.{definitions_of}
+use Rattle.cedar_sound.specs.of_duplicates.Duplicates.{AreOnce, IsTwice}
+use Rattle.cedar_qualified.specs.of_missing.Undeclared.{missing_in_definition, missing_in_each, refusal_of}
 use Rattle.cedar_names.specs.declared.extensions.Extensions.{Extensions}
 use Rattle.cedar_phases.specs.Holding.{AllPassed, Holds, OneRefuses, early_phases}
 use Rattle.cedar_phases.proofs.Carried.{as_written, carried, passed, refused}
 use Rattle.cedar_phases.proofs.CheckedWorld.{duplicates_pass, duplicates_refuse, references_pass, references_refuse}
 use Rattle.cedar_phases.proofs.checking.check_definitions.Goals as goal
 use Rattle.cedar_schema_error.specs.Told.{told}
-use Rattle.cedar_world.specs.Worlds.{World}
+use Rattle.cedar_qualified.specs.of_world.Worlds.{World}
 
 pub returns-in-Ok-clause-passes : goal.returns-in-Ok-clause-passes
 returns-in-Ok-clause-passes c =

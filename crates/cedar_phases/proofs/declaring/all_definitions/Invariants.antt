@@ -1,7 +1,7 @@
 -- SPDX-License-Identifier: Apache-2.0
 use Rattle.std.proofs.Common.{[]}
 use Rattle.std.specs.Vec.Iter.{into_iter_items}
-use Rattle.cedar_definitions.specs.Structures.{definitions_of}
+use Rattle.cedar_declared.specs.of_definitions.Structures.{definitions_of}
 use Rattle.cedar_phases.proofs.declaring.all_definitions.Given as goal
 use Rattle.cedar_tables.proofs.Appended.{Appends}
 

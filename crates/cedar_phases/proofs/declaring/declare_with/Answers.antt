@@ -7,7 +7,7 @@ use Rattle.cedar_phases.proofs.Carried.{carried}
 use Rattle.cedar_phases.proofs.DeclaredWorld.{shadowing_passes, shadowing_refuses}
 use Rattle.cedar_phases.proofs.declaring.declare_with.Goals as goal
 use Rattle.cedar_schema_error.specs.Told.{told}
-use Rattle.cedar_shadowing.specs.Shadowing.{ShadowPasses, ShadowRefuses, shadow_phases}
+use Rattle.cedar_sound.specs.of_shadowing.Shadowing.{ShadowPasses, ShadowRefuses, shadow_phases}
 use Rattle.cedar_sound.specs.Sound.{RefusesAt, Shadowing}
 
 pub returns-in_ok-declarations-in-Ok-clause-passes : goal.returns-in_ok-declarations-in-Ok-clause-passes

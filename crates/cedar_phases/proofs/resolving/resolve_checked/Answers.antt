@@ -1,13 +1,13 @@
 -- SPDX-License-Identifier: Apache-2.0
 use Rattle.std.proofs.Common.{List}
-use Rattle.cedar_definitions.specs.Structures.{definitions_of}
+use Rattle.cedar_declared.specs.of_definitions.Structures.{definitions_of}
 use Rattle.cedar_phases.specs.Holding.{AllPassed, AreTables, Definition, Holds, OneRefuses, later_phases}
 use Rattle.cedar_phases.specs.SchemaViews.{schema_in}
 use Rattle.cedar_phases.proofs.Carried.{passed, refused}
 use Rattle.cedar_schema_error.specs.Told.{told}
 use Rattle.cedar_sound.specs.Sound.{Passes, References}
-use Rattle.cedar_world.specs.Denotes.{Denotes}
-use Rattle.cedar_world.specs.Worlds.{World}
+use Rattle.cedar_qualified.specs.of_world.Denotes.{Denotes}
+use Rattle.cedar_qualified.specs.of_world.Worlds.{World}
 use Rattle.cedar_phases.proofs.DeclaredTables.{tables_held}
 use Rattle.cedar_phases.proofs.resolving.resolve_checked.Goals as goal
 

@@ -1,6 +1,6 @@
 -- SPDX-License-Identifier: Apache-2.0
 use Rattle.std.proofs.Common.{◌++◌}
-use Rattle.cedar_definitions.specs.Structures.{definitions_of}
+use Rattle.cedar_declared.specs.of_definitions.Structures.{definitions_of}
 use Rattle.cedar_phases.specs.Holding.{AllPassed, Holds, OneRefuses, early_phases, later_phases}
 use Rattle.cedar_phases.specs.SchemaViews.{schema_in}
 use Rattle.cedar_phases.proofs.Carried.{carried, passed, refused}
@@ -8,8 +8,8 @@ use Rattle.cedar_phases.proofs.Composing.{refused_first, refused_later}
 use Rattle.cedar_resolved.specs.declared.schema.ValidatorSchema.{ValidatorSchema}
 use Rattle.cedar_schema_error.specs.Told.{told}
 use Rattle.cedar_sound.specs.Sound.{Passes, References, RefusesAt}
-use Rattle.cedar_world.specs.Denotes.{Denotes}
-use Rattle.cedar_world.specs.Worlds.{World}
+use Rattle.cedar_qualified.specs.of_world.Denotes.{Denotes}
+use Rattle.cedar_qualified.specs.of_world.Worlds.{World}
 use Rattle.cedar_names.specs.declared.extensions.Extensions.{Extensions}
 use Rattle.cedar_phases.proofs.resolving.resolve_declarations.Goals as goal
 

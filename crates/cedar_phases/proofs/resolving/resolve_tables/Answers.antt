@@ -7,8 +7,8 @@ use Rattle.cedar_phases.specs.declared.unfolding.UnfoldedTypes.{UnfoldedTypes}
 use Rattle.cedar_resolved.specs.declared.schema.ValidatorSchema.{ValidatorSchema}
 use Rattle.cedar_schema_error.specs.Told.{told}
 use Rattle.cedar_sound.specs.Sound.{Passes, References, RefusesAt, Unfolding}
-use Rattle.cedar_world.specs.Denotes.{Denotes}
-use Rattle.cedar_world.specs.Worlds.{World}
+use Rattle.cedar_qualified.specs.of_world.Denotes.{Denotes}
+use Rattle.cedar_qualified.specs.of_world.Worlds.{World}
 use Rattle.cedar_phases.proofs.resolving.resolve_tables.Goals as goal
 
 pub returns-in-Ok-clause-passes : goal.returns-in-Ok-clause-passes

@@ -21,8 +21,8 @@ use Rattle.cedar_unfold.specs.ResolvedViews.{resolved}
 use Rattle.cedar_unfold.specs.Tables.{by_name}
 use Rattle.cedar_unfold.specs.UnfoldPhases.{IsUnfolded, Unfoldable, UnfoldsAt, WhyNotUnfoldable}
 use Rattle.cedar_unfold.specs.WrittenViews.{written_type}
-use Rattle.cedar_world.specs.Qualified.{QualifiesJob}
-use Rattle.cedar_world.specs.Worlds.{World, job}
+use Rattle.cedar_qualified.specs.of_world.Qualified.{QualifiesJob}
+use Rattle.cedar_qualified.specs.of_world.Worlds.{World, job}
 use Rattle.cedar_written.specs.Answers.{all_values}
 use Rattle.cedar_written.specs.Through.{through_type}
 

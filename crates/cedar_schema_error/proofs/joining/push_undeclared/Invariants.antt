@@ -1,6 +1,6 @@
 -- SPDX-License-Identifier: Apache-2.0
 use Rattle.std.proofs.Common.{◌≡◌, ◌++◌}
-use Rattle.cedar_text.specs.Lists.{elements_left}
+use Rattle.cedar_names.specs.of_text.Lists.{elements_left}
 use Rattle.cedar_schema_error.specs.Joining.{actions_of}
 use Rattle.cedar_schema_error.proofs.joining.push_undeclared.Given as goal
 

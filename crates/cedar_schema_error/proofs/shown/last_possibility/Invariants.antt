@@ -1,6 +1,6 @@
 -- SPDX-License-Identifier: Apache-2.0
 use Rattle.std.proofs.Common.{◌≡◌}
-use Rattle.cedar_text.specs.Lists.{elements_left}
+use Rattle.cedar_names.specs.of_text.Lists.{elements_left}
 use Rattle.cedar_schema_error.specs.NameTexts.{final, last_possibility}
 use Rattle.cedar_schema_error.proofs.shown.last_possibility.Given as goal
 

@@ -1,5 +1,5 @@
 -- SPDX-License-Identifier: Apache-2.0
-use Rattle.cedar_declared.specs.Held.{names_of}
+use Rattle.cedar_missing.specs.of_declared.Held.{names_of}
 use Rattle.cedar_written.specs.References.{references_of_attribute}
 use Rattle.cedar_undeclared.proofs.Gathers.{Gathers}
 use Rattle.cedar_undeclared.proofs.gather.+gather.Given as goal

@@ -1,6 +1,6 @@
 -- SPDX-License-Identifier: Apache-2.0
 use Rattle.std.proofs.Common.{◌≡◌, drop}
-use Rattle.cedar_declared.specs.Held.{names_of}
+use Rattle.cedar_missing.specs.of_declared.Held.{names_of}
 use Rattle.cedar_undeclared.specs.Gathering.{with_all_undeclared}
 use Rattle.cedar_undeclared.proofs.gather.gather_names.Given as goal
 

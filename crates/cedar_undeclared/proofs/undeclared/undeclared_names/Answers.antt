@@ -1,5 +1,5 @@
 -- SPDX-License-Identifier: Apache-2.0
-use Rattle.cedar_declared.specs.Held.{names_of}
+use Rattle.cedar_missing.specs.of_declared.Held.{names_of}
 use Rattle.cedar_undeclared.proofs.UndeclaredSets.{undeclared_set}
 use Rattle.cedar_undeclared.proofs.undeclared.undeclared_names.Goals as goal
 

@@ -1,6 +1,6 @@
 -- SPDX-License-Identifier: Apache-2.0
 use Rattle.std.proofs.Common.{sym, ◌∙◌}
-use Rattle.cedar_closure.proofs.PlaceLemmas.{place-found, place-missing, searchable}
+use Rattle.cedar_types.proofs.of_closure.PlaceLemmas.{place-found, place-missing, searchable}
 use Rattle.cedar_names.specs.Components.{components}
 use Rattle.cedar_names.specs.OrderLaws.{words-total}
 use Rattle.cedar_unfold.proofs.NameTables.{place-names}

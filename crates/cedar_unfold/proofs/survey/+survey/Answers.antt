@@ -1,7 +1,7 @@
 -- SPDX-License-Identifier: Apache-2.0
 use Rattle.std.proofs.Common.{sym, arith}
 use Rattle.cedar_names.specs.Extensions.{extension_words}
-use Rattle.cedar_text.specs.Words.{has_word}
+use Rattle.cedar_names.specs.of_text.Words.{has_word}
 use Rattle.cedar_unfold.specs.Heads.{attributes_of}
 use Rattle.cedar_unfold.specs.Notes.{noted}
 use Rattle.cedar_unfold.specs.Tables.{names_of}

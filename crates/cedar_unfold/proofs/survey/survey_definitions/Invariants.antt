@@ -1,6 +1,6 @@
 -- SPDX-License-Identifier: Apache-2.0
 use Rattle.cedar_names.specs.Extensions.{extension_words}
-use Rattle.cedar_text.specs.Words.{has_word}
+use Rattle.cedar_names.specs.of_text.Words.{has_word}
 use Rattle.cedar_unfold.specs.Notes.{noted}
 use Rattle.cedar_unfold.specs.Tables.{by_name, names_of}
 use Rattle.cedar_unfold.proofs.Surveying.{Surveyed}

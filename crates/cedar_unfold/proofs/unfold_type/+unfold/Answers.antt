@@ -8,7 +8,7 @@ use Rattle.std.specs.Option.{option_copied}
 use Rattle.std.specs.Ordering.{nat_cmp}
 use Rattle.cedar_names.specs.Components.{components}
 use Rattle.cedar_names.specs.Extensions.{extension_words}
-use Rattle.cedar_text.specs.Words.{has_word}
+use Rattle.cedar_names.specs.of_text.Words.{has_word}
 use Rattle.cedar_unfold.specs.Finished.{entity_of, finished, record_of, within}
 use Rattle.cedar_unfold.specs.Heads.{attributes_of}
 use Rattle.cedar_unfold.specs.Resolved as resolved_types

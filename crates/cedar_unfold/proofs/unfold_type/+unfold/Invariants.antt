@@ -2,7 +2,7 @@
 use Rattle.std.proofs.Common.{◌+◌, ◌*◌}
 use Rattle.std.specs.Option.{option_copied}
 use Rattle.cedar_names.specs.Extensions.{extension_words}
-use Rattle.cedar_text.specs.Words.{has_word}
+use Rattle.cedar_names.specs.of_text.Words.{has_word}
 use Rattle.cedar_unfold.specs.Following.{following}
 use Rattle.cedar_unfold.specs.Heads.{attributes_of}
 use Rattle.cedar_unfold.specs.Notes.{noted}

@@ -2,7 +2,7 @@
 use Rattle.std.proofs.Common.{◌≡◌, ◌++◌, map}
 use Rattle.cedar_names.specs.Extensions.{extension_words}
 use Rattle.cedar_names.specs.Identifiers.{unreserved_word}
-use Rattle.cedar_text.specs.Words.{primitive_words}
+use Rattle.cedar_names.specs.of_text.Words.{primitive_words}
 use Rattle.cedar_world.proofs.builtins.builtin_ids.Given as goal
 
 -- the words so far, with those of the rest, are all

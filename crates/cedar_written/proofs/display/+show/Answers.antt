@@ -3,7 +3,7 @@ use Rattle.std.proofs.Common.{[], ◌∷◌, sym, subst}
 use Rattle.std.proofs.Output.{displays_on_ok_of_eq}
 use Rattle.std.specs.Prelude.{codes}
 use Rattle.std.specs.declared.result.Result.TheVariants.{Ok}
-use Rattle.cedar_data.specs.Maps.{map_values}
+use Rattle.cedar_print.specs.of_data.Maps.{map_values}
 use Rattle.cedar_print.specs.Annotations.{annotations_pieces}
 use Rattle.cedar_print.specs.Pieces.{mark, separated}
 use Rattle.cedar_print.proofs.Prints.{Separates-end, Separates-next, Shows, Shows-three}

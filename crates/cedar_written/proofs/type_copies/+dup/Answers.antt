@@ -6,7 +6,7 @@ use Rattle.std.specs.Ordering.{nat_cmp}
 use denote.Param.Weighed.{most}
 use Rattle.cedar_written.proofs.Depths.{value_within}
 use Rattle.cedar_written.proofs.ty.TypeOfAttribute.TheLaws.{the_size as size_of}
-use Rattle.cedar_data.proofs.Rebuild.{sorted_next}
+use Rattle.cedar_print.proofs.of_data.Rebuild.{sorted_next}
 use Rattle.cedar_written.proofs.type_copies.+dup.Goals as goal
 
 pub dup_attributes-push_last-requires : goal.dup_attributes-push_last-requires

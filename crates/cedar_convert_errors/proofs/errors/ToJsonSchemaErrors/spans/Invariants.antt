@@ -1,6 +1,6 @@
 -- SPDX-License-Identifier: Apache-2.0
 use Rattle.std.proofs.Common.{◌≡◌, ◌++◌}
-use Rattle.cedar_text.specs.Lists.{elements_left}
+use Rattle.cedar_tree.specs.of_text.Lists.{elements_left}
 use Rattle.cedar_convert_errors.specs.Texts.{all_spans, fault_list}
 use Rattle.cedar_convert_errors.proofs.errors.ToJsonSchemaErrors.spans.Given as goal
 

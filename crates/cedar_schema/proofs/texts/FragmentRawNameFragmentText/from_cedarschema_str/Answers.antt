@@ -1,8 +1,8 @@
 -- SPDX-License-Identifier: Apache-2.0
 use Rattle.std.proofs.Common.{Err, Global, Vec, subst}
-use Rattle.cedar_convert_fragment.specs.Views.{fragment_seen}
-use Rattle.cedar_convert_text.specs.Texts.{TellsText}
-use Rattle.cedar_convert_warnings.specs.declared.warnings.SchemaWarning.{SchemaWarning}
+use Rattle.cedar_fragment_world.specs.of_convert_fragment.Views.{fragment_seen}
+use Rattle.cedar_schema_errors.specs.of_convert_text.Texts.{TellsText}
+use Rattle.cedar_schema_errors.specs.of_convert_warnings.declared.warnings.SchemaWarning.{SchemaWarning}
 use Rattle.cedar_data.specs.Answers.{IfRefused}
 use Rattle.cedar_fragment.specs.ActionUids.{over_raw}
 use Rattle.cedar_fragment.specs.declared.definitions.Fragment.{Fragment}

@@ -1,15 +1,15 @@
 -- SPDX-License-Identifier: Apache-2.0
 use Rattle.std.proofs.Common.{◌≡◌, Global, Vec}
-use Rattle.cedar_convert_fragment.specs.Views.{fragment_seen}
-use Rattle.cedar_convert_warnings.specs.declared.warnings.SchemaWarning.{SchemaWarning}
+use Rattle.cedar_fragment_world.specs.of_convert_fragment.Views.{fragment_seen}
+use Rattle.cedar_schema_errors.specs.of_convert_warnings.declared.warnings.SchemaWarning.{SchemaWarning}
 use Rattle.cedar_fragment.specs.ActionUids.{over_raw}
 use Rattle.cedar_fragment.specs.declared.definitions.Fragment.{Fragment}
 use Rattle.cedar_fragment_world.specs.FragmentWorlds.{world_of_fragment}
 use Rattle.cedar_names.specs.Extensions.{extension_words}
 use Rattle.cedar_phases.specs.SchemaViews.{schema_in}
-use Rattle.cedar_resolved.specs.declared.schema.ValidatorSchema.{ValidatorSchema}
+use Rattle.cedar_phases.specs.of_resolved.declared.schema.ValidatorSchema.{ValidatorSchema}
 use Rattle.cedar_schema.proofs.Composing.{accepts_text, denotes_text, parsing_refused, refused_accepts, refused_text}
-use Rattle.cedar_world.specs.Denotes.{Denotes}
+use Rattle.cedar_fragment_world.specs.of_world.Denotes.{Denotes}
 use Rattle.cedar_written.specs.declared.raw_name.RawName.{RawName}
 use Rattle.cedar_schema.proofs.texts.ValidatorSchemaFromCedarSchema.from_cedarschema_str.Goals as goal
 

@@ -1,13 +1,13 @@
 -- SPDX-License-Identifier: Apache-2.0
 use Rattle.std.proofs.Common.{Global, Vec, subst}
-use Rattle.cedar_convert_warnings.specs.declared.warnings.SchemaWarning.{SchemaWarning}
+use Rattle.cedar_schema_errors.specs.of_convert_warnings.declared.warnings.SchemaWarning.{SchemaWarning}
 use Rattle.cedar_fragment_world.specs.FragmentWorlds.{world_of_fragment}
 use Rattle.cedar_names.specs.Extensions.{extension_words}
 use Rattle.cedar_phases.specs.SchemaViews.{schema_in}
-use Rattle.cedar_resolved.specs.declared.schema.ValidatorSchema.{ValidatorSchema}
+use Rattle.cedar_phases.specs.of_resolved.declared.schema.ValidatorSchema.{ValidatorSchema}
 use Rattle.cedar_schema.proofs.Composing.{refused_accepts, well_formed_with}
 use Rattle.cedar_schema.specs.Fragments.{all_extensions}
-use Rattle.cedar_world.specs.Denotes.{Denotes}
+use Rattle.cedar_fragment_world.specs.of_world.Denotes.{Denotes}
 use Rattle.cedar_schema.proofs.texts.ValidatorSchemaFromCedarSchema.parse.Goals as goal
 
 -- what is made of a text: a schema with warnings

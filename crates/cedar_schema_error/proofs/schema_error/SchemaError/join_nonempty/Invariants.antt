@@ -1,7 +1,7 @@
 -- SPDX-License-Identifier: Apache-2.0
 use Rattle.std.proofs.Common.{◌≡◌, ◌++◌}
 use Rattle.std.specs.List.{flat_map}
-use Rattle.cedar_text.specs.Lists.{elements, elements_left}
+use Rattle.cedar_names.specs.of_text.Lists.{elements, elements_left}
 use Rattle.cedar_schema_error.specs.Joining.{actions_of, types_of}
 use Rattle.cedar_schema_error.proofs.schema_error.SchemaError.join_nonempty.Given as goal
 

@@ -1,6 +1,6 @@
 -- SPDX-License-Identifier: Apache-2.0
 use Rattle.std.proofs.Common.{◌≡◌, ◌++◌}
-use Rattle.cedar_text.specs.Lists.{elements_left}
+use Rattle.cedar_names.specs.of_text.Lists.{elements_left}
 use Rattle.cedar_tree.specs.Faults.{all_spans, error_list}
 use Rattle.cedar_tree.proofs.parse_error.ParseErrors.spans.Given as goal
 

@@ -1,6 +1,6 @@
 -- SPDX-License-Identifier: Apache-2.0
 use Rattle.std.proofs.Common.{ap, ◌∙◌}
-use Rattle.cedar_data.specs.Maps.{get_text}
+use Rattle.cedar_closure.specs.of_data.Maps.{get_text}
 use Rattle.cedar_types.proofs.Entries.{entries-attributes_of}
 use Rattle.cedar_types.proofs.ty.Attributes.with_attributes.Goals as goal
 

@@ -5,9 +5,9 @@ use Rattle.std.proofs.lemmas.Iterator.Consumers.{YieldsList-end}
 use Rattle.std.proofs.lemmas.List.{map-id}
 use Rattle.std.specs.Cmp.Lexicographic.{slice_cmp, nat_list_cmp_total}
 use Rattle.std.specs.Ordering.{nat_cmp}
-use Rattle.cedar_data.proofs.Build.{Builds-start, Builds-next}
-use Rattle.cedar_data.proofs.Rebuild.{map_values-append}
-use Rattle.cedar_data.specs.Maps.{get_text, is_text, last_value, map_values}
+use Rattle.cedar_closure.proofs.of_data.Build.{Builds-start, Builds-next}
+use Rattle.cedar_closure.proofs.of_data.Rebuild.{map_values-append}
+use Rattle.cedar_closure.specs.of_data.Maps.{get_text, is_text, last_value, map_values}
 use Rattle.cedar_types.proofs.Entries.{entries-attributes_of}
 use Rattle.cedar_types.specs.Types.{required}
 use Rattle.cedar_types.proofs.ty.Attributes.with_required_attributes.Goals as goal

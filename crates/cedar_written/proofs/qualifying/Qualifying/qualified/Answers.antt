@@ -1,7 +1,7 @@
 -- SPDX-License-Identifier: Apache-2.0
 use Rattle.std.proofs.Common.{IfOk, ◌≡◌, ◌∙◌, ap, subst}
 use Rattle.std.specs.Option.{option_copied}
-use Rattle.cedar_names.specs.Components.{qualified_in}
+use Rattle.cedar_print.specs.of_names.Components.{qualified_in}
 use Rattle.cedar_written.proofs.Possible.{qualified-in}
 use Rattle.cedar_written.proofs.qualifying.Qualifying.qualified.Goals as goal
 

@@ -1,0 +1,6 @@
+-- SPDX-License-Identifier: Apache-2.0
+-- What the crates above cite of `cedar_names`.
+pub use Rattle.cedar_names.specs.declared.entity_uid
+pub use Rattle.cedar_names.specs.declared.id
+pub use Rattle.cedar_names.specs.declared.internal_name
+pub use Rattle.cedar_names.specs.declared.name

@@ -1,0 +1,5 @@
+-- SPDX-License-Identifier: Apache-2.0
+-- What the crates above cite of `cedar_text`.
+pub use Rattle.cedar_names.specs.of_text.Joining
+pub use Rattle.cedar_names.specs.of_text.Lists
+pub mod declared

@@ -1,0 +1,5 @@
+-- SPDX-License-Identifier: Apache-2.0
+-- What the crates above cite of `cedar_world`.
+pub use Rattle.cedar_world.specs.DefinitionViews
+pub use Rattle.cedar_world.specs.Denotes
+pub use Rattle.cedar_world.specs.Schemas

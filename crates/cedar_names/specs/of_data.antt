@@ -1,0 +1,6 @@
+-- SPDX-License-Identifier: Apache-2.0
+-- What the crates above cite of `cedar_data`.
+pub use Rattle.cedar_text.specs.of_data.Maps
+pub use Rattle.cedar_text.specs.of_data.Sets
+pub use Rattle.cedar_text.specs.of_data.formers
+pub mod declared

@@ -1,0 +1,4 @@
+-- SPDX-License-Identifier: Apache-2.0
+-- What the crates above cite of `cedar_syntax`.
+pub use Rattle.cedar_convert_text.specs.of_syntax.Causes
+pub use Rattle.cedar_convert_text.specs.of_syntax.Texts

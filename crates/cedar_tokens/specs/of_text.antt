@@ -1,0 +1,4 @@
+-- SPDX-License-Identifier: Apache-2.0
+-- What the crates above cite of `cedar_text`.
+pub use Rattle.cedar_text.specs.Unescaping
+pub use Rattle.cedar_text.specs.Words

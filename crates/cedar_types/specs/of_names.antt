@@ -1,0 +1,7 @@
+-- SPDX-License-Identifier: Apache-2.0
+-- What the crates above cite of `cedar_names`.
+pub use Rattle.cedar_closure.specs.of_names.Components
+pub use Rattle.cedar_closure.specs.of_names.EntityUids
+pub use Rattle.cedar_closure.specs.of_names.Identifiers
+pub use Rattle.cedar_closure.specs.of_names.Names
+pub mod declared

@@ -1,0 +1,6 @@
+-- SPDX-License-Identifier: Apache-2.0
+-- What the crates above cite of `cedar_names`.
+pub use Rattle.cedar_closure.specs.of_names.declared.entity_uid
+pub use Rattle.cedar_closure.specs.of_names.declared.id
+pub use Rattle.cedar_closure.specs.of_names.declared.internal_name
+pub use Rattle.cedar_closure.specs.of_names.declared.name

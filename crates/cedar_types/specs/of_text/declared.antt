@@ -1,0 +1,3 @@
+-- SPDX-License-Identifier: Apache-2.0
+-- What the crates above cite of `cedar_text`.
+pub use Rattle.cedar_closure.specs.of_text.declared.non_empty
