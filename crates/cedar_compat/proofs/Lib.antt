@@ -1,0 +1,13 @@
+-- SPDX-License-Identifier: Apache-2.0
+pub mod Told
+pub mod Layers
+pub mod Depths
+pub mod Rows
+pub mod Needs
+pub mod Each
+pub mod Found
+pub mod TypeLoops
+pub mod CheckLaws
+pub mod WideningLaws
+pub mod CompatibleLaws
+pub mod Passing
