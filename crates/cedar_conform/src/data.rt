@@ -55,7 +55,9 @@ fn check_tags(
     value: &Value,
     tags: Option<&Type>,
 ) -> Out<(), Fault>
-    ensures { Tells passed result (tags_check (schema_in schema.now) (option_map resolved (option_copied tags.entry)) (view value.now)) }
+    ensures { Tells passed result
+        (tags_check (schema_in schema.now) (option_map resolved (option_copied tags.entry))
+        (view value.now)) }
 {
     let Some(members) = value.as_object() else {
         return wrong_kind(alloc, value, JsonKind::Object);
@@ -108,7 +110,8 @@ fn check_each_parent(
     items: &Vec<Value>,
     ty: &EntityType,
 ) -> Out<(), Fault>
-    ensures { Tells passed result (each_item (parent_check (schema_in schema.now) (entity_words ty.now)) 0
+    ensures { Tells passed result
+        (each_item (parent_check (schema_in schema.now) (entity_words ty.now)) 0
         (items_view items.now.items)) }
 {
     let mut place = 0usize;
@@ -127,7 +130,8 @@ fn check_parents(
     ty: &EntityType,
 ) -> Out<(), Fault>
     ensures { Tells passed result (in_array
-        (each_item (parent_check (schema_in schema.now) (entity_words ty.now)) 0) (view value.now)) }
+        (each_item (parent_check (schema_in schema.now) (entity_words ty.now)) 0)
+        (view value.now)) }
 {
     match value.as_array() {
         Some(items) => check_each_parent(alloc, schema, items, ty),
@@ -174,7 +178,8 @@ fn check_parents_at(
     ty: &EntityType,
 ) -> Out<(), Fault>
     ensures { Tells passed result (needs (codes "parents")
-        (in_array (each_item (parent_check (schema_in schema.now) (entity_words ty.now)) 0)) (view value.now)) }
+        (in_array (each_item (parent_check (schema_in schema.now) (entity_words ty.now)) 0))
+        (view value.now)) }
 {
     match value.get("parents") {
         Some(parents) => under(alloc, "parents", check_parents(alloc, schema, parents, ty)),
@@ -190,7 +195,9 @@ fn check_tags_at(
     tags: Option<&Type>,
 ) -> Out<(), Fault>
     ensures { Tells passed result
-        (allows (codes "tags") (tags_check (schema_in schema.now) (option_map resolved (option_copied tags.entry))) (view value.now)) }
+        (allows (codes "tags")
+        (tags_check (schema_in schema.now) (option_map resolved (option_copied tags.entry)))
+        (view value.now)) }
 {
     match value.get("tags") {
         Some(member) => under(alloc, "tags", check_tags(alloc, schema, member, tags)),

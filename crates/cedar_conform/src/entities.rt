@@ -60,7 +60,8 @@ fn read_entities(
     schema: &ValidatorSchema,
     items: &Vec<Value>,
 ) -> Out<Items<EntityUID>, Fault>
-    ensures { Tells (map uid_in) result (each_entity (schema_in schema.now) 0 (items_view items.now.items)) }
+    ensures { Tells (map uid_in) result
+        (each_entity (schema_in schema.now) 0 (items_view items.now.items)) }
 {
     let mut read = Items::new(alloc);
     let mut place = 0usize;
@@ -74,7 +75,8 @@ fn read_entities(
 
 /// Refuses items of which one is no entity of the schema, or one stands twice.
 fn check_items(alloc: Global, schema: &ValidatorSchema, items: &Vec<Value>) -> Out<(), Fault>
-    ensures { Tells passed result (items_check (schema_in schema.now) (items_view items.now.items)) }
+    ensures { Tells passed result
+        (items_check (schema_in schema.now) (items_view items.now.items)) }
 {
     let uids = read_entities(alloc, schema, items)?;
     check_repeats(alloc, uids.as_slice())

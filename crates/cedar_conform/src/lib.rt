@@ -12,5 +12,6 @@ mod values;
 
 pub use cedar_conform_fault::{Fault, FaultKind, JsonKind};
 pub use entities::conforms_entities;
-pub use references::read_ref;
+pub use references::{known, missing, read_ref};
+pub use refusing::{refuse, under, under_place, wrong_kind};
 pub use values::conforms_value;

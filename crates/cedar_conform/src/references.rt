@@ -63,7 +63,7 @@ fn read_text(alloc: Global, value: &Value) -> Out<Text, Fault>
 }
 
 /// Refuses a value without this key.
-pub(crate) fn missing<T>(alloc: Global, field: &str) -> Out<T, Fault>
+pub fn missing<T>(alloc: Global, field: &str) -> Out<T, Fault>
     ensures ok { IfOk result (λ _. ⊥) }
     ensures refused { IfRefused result (IsMissing field.now) }
 {
@@ -169,7 +169,8 @@ fn chosen<'a>(
     ty: &'a ValidatorEntityType,
     uid: &EntityUID,
 ) -> Out<&'a ValidatorEntityType, Fault>
-    ensures { Tells (λ ty. entity_of ty.now) result (choice_check (uid_in uid.now) (entity_of ty.now)) }
+    ensures { Tells (λ ty. entity_of ty.now) result
+        (choice_check (uid_in uid.now) (entity_of ty.now)) }
 {
     if may_have_id(ty, uid.eid().as_str()) {
         return Ok(ty);
@@ -182,12 +183,13 @@ fn chosen<'a>(
 /// The type of the entity in the schema. Refused where the schema has none of this name, or where the type lists its
 /// entities and this is none of them.
 #[tactic(auto, using(crate::proofs::Told::told, crate::proofs::Found::found))]
-pub(crate) fn known<'a>(
+pub fn known<'a>(
     alloc: Global,
     schema: &'a ValidatorSchema,
     uid: &EntityUID,
 ) -> Out<&'a ValidatorEntityType, Fault>
-    ensures { Tells (λ ty. entity_of ty.now) result (known_check (schema_in schema.now) (uid_in uid.now)) }
+    ensures { Tells (λ ty. entity_of ty.now) result
+        (known_check (schema_in schema.now) (uid_in uid.now)) }
 {
     match schema.get_entity_type(uid.entity_type()) {
         Some(ty) => chosen(alloc, ty, uid),

@@ -15,7 +15,7 @@ use serde_json::Value;
 use std::alloc::Global;
 
 /// Refuses the value itself for this. It takes no memory.
-pub(crate) fn refuse<T>(alloc: Global, kind: FaultKind) -> Out<T, Fault>
+pub fn refuse<T>(alloc: Global, kind: FaultKind) -> Out<T, Fault>
     ensures { result ≡ Err (Refused (record { path = []; kind = kind })) }
 {
     Err(Failure::Refused(Fault {
@@ -25,7 +25,7 @@ pub(crate) fn refuse<T>(alloc: Global, kind: FaultKind) -> Out<T, Fault>
 }
 
 /// Refuses the value for its kind. It takes no memory.
-pub(crate) fn wrong_kind<T>(alloc: Global, value: &Value, wanted: JsonKind) -> Out<T, Fault>
+pub fn wrong_kind<T>(alloc: Global, value: &Value, wanted: JsonKind) -> Out<T, Fault>
     ensures { result ≡ Err (Refused
         (record { path = []; kind = kinds.WrongKind (kind (view value.now)) wanted })) }
 {
@@ -34,7 +34,7 @@ pub(crate) fn wrong_kind<T>(alloc: Global, value: &Value, wanted: JsonKind) -> O
 }
 
 /// The same answer, with the key before the path where it is a refusal.
-pub(crate) fn under<T: Drop>(alloc: Global, key: &str, read: Out<T, Fault>) -> Out<T, Fault>
+pub fn under<T: Drop>(alloc: Global, key: &str, read: Out<T, Fault>) -> Out<T, Fault>
     ensures ok { IfOk result (λ v. read ≡ Ok v) }
     ensures refused { IfRefused result (IsBehind key.now read) }
 {
@@ -49,11 +49,7 @@ pub(crate) fn under<T: Drop>(alloc: Global, key: &str, read: Out<T, Fault>) -> O
 }
 
 /// The same answer, with the place before the path where it is a refusal.
-pub(crate) fn under_place<T: Drop>(
-    alloc: Global,
-    place: usize,
-    read: Out<T, Fault>,
-) -> Out<T, Fault>
+pub fn under_place<T: Drop>(alloc: Global, place: usize, read: Out<T, Fault>) -> Out<T, Fault>
     ensures ok { IfOk result (λ v. read ≡ Ok v) }
     ensures refused { IfRefused result (IsBehind (decimal place) read) }
 {

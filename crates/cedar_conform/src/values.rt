@@ -148,7 +148,8 @@ fn check_list(
     element: &Type,
 ) -> Out<(), Fault>
     ensures { Tells passed result
-        (in_array (each_item (value_check (schema_in schema.now) (resolved element.now)) 0) (view value.now)) }
+        (in_array (each_item (value_check (schema_in schema.now) (resolved element.now)) 0)
+        (view value.now)) }
 {
     match value.as_array() {
         Some(items) => check_items(alloc, schema, items, element),
@@ -165,7 +166,8 @@ fn check_items(
     items: &Vec<Value>,
     element: &Type,
 ) -> Out<(), Fault>
-    ensures { Tells passed result (each_item (value_check (schema_in schema.now) (resolved element.now)) 0
+    ensures { Tells passed result
+        (each_item (value_check (schema_in schema.now) (resolved element.now)) 0
         (items_view items.now.items)) }
 {
     let mut place = 0usize;
@@ -270,9 +272,11 @@ pub fn conforms_value(
     v: &Value,
     ty: &Type,
 ) -> Out<(), Fault>
-    ensures told { Tells passed result (value_check (schema_in schema.now) (resolved ty.now) (view v.now)) }
+    ensures told { Tells passed result
+        (value_check (schema_in schema.now) (resolved ty.now) (view v.now)) }
     ensures fits { IfOk result (λ _. Fits (schema_in schema.now) (resolved ty.now) (view v.now)) }
-    ensures unfit { IfRefused result (λ _. Fits (schema_in schema.now) (resolved ty.now) (view v.now) → ⊥) }
+    ensures unfit { IfRefused result
+        (λ _. Fits (schema_in schema.now) (resolved ty.now) (view v.now) → ⊥) }
 {
     check_value(alloc, schema, v, ty)
 }
