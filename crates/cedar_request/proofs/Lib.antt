@@ -1,0 +1,12 @@
+-- SPDX-License-Identifier: Apache-2.0
+pub mod Said
+pub mod Beside
+pub mod Actions
+pub mod Places
+pub mod RequestLoops
+pub mod Elements
+pub mod Numbering
+pub mod Once
+pub mod CheckLaws
+pub mod RequestLaws
+pub mod PassingRequests

@@ -1,0 +1,7 @@
+-- SPDX-License-Identifier: Apache-2.0
+pub mod FaultTexts
+pub mod Numbers
+pub mod PartViews
+pub mod RequestChecks
+pub mod RequestFlaws
+pub mod Requests
