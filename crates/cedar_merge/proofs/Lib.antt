@@ -1,0 +1,14 @@
+-- SPDX-License-Identifier: Apache-2.0
+pub mod Answering
+pub mod Found
+pub mod Holding
+pub mod Leasts
+pub mod Moves
+pub mod Namespaces
+pub mod Orders
+pub mod PairLaws
+pub mod Parts
+pub mod Permuted
+pub mod Putting
+pub mod Texts
+pub mod Words

@@ -1,0 +1,7 @@
+-- SPDX-License-Identifier: Apache-2.0
+pub mod Joining
+pub mod Lookups
+pub mod Merged
+pub mod Pairs
+pub mod TextLaws
+pub mod Texts
