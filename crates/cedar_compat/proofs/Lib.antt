@@ -1,7 +1,6 @@
 -- SPDX-License-Identifier: Apache-2.0
 pub mod Told
 pub mod Layers
-pub mod Depths
 pub mod Rows
 pub mod Needs
 pub mod Each

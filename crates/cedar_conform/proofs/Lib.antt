@@ -11,7 +11,6 @@ pub mod ReferenceLaws
 pub mod ValueLaws
 pub mod Found
 pub mod Passing
-pub mod Depths
 pub mod Empty
 pub mod EntityLoops
 pub mod RepeatLoops

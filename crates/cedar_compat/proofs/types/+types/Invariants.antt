@@ -5,7 +5,7 @@ use Rattle.cedar_types.specs.declared.ty.AttributeType.{size-AttributeType}
 use Rattle.cedar_types.specs.declared.ty.Attributes.{size-Attributes}
 use Rattle.cedar_types.specs.declared.ty.ResolvedType.{size-ResolvedType}
 use Rattle.cedar_unfold.specs.ResolvedViews.{resolved_map}
-use Rattle.cedar_compat.proofs.Depths.{IsDeeper}
+use Rattle.cedar_unfold.proofs.Depths.{IsDeeper}
 use Rattle.cedar_compat.proofs.Rows.{PassesRows}
 use Rattle.cedar_compat.proofs.types.+types.Given as goal
 

@@ -3,7 +3,7 @@ use Rattle.std.proofs.Common.{◌+◌, ◌*◌}
 use Rattle.cedar_types.specs.Types.{entries}
 use Rattle.cedar_types.specs.declared.ty.Attributes.{size-Attributes}
 use Rattle.cedar_types.specs.declared.ty.ResolvedType.{size-ResolvedType}
-use Rattle.cedar_compat.proofs.Depths.{IsDeeper}
+use Rattle.cedar_unfold.proofs.Depths.{IsDeeper}
 use Rattle.cedar_compat_laws.proofs.NameLoops.{DifferSoFar}
 use Rattle.cedar_compat_laws.proofs.differing.+types.Given as goal
 

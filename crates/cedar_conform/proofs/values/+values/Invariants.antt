@@ -8,7 +8,7 @@ use Rattle.cedar_types.specs.declared.ty.ResolvedType.{size-ResolvedType}
 use Rattle.cedar_unfold.specs.ResolvedViews.{resolved}
 use Rattle.cedar_phases.specs.SchemaViews.{schema_in}
 use Rattle.cedar_conform.specs.ValueChecks.{value_check}
-use Rattle.cedar_conform.proofs.Depths.{IsDeeper}
+use Rattle.cedar_unfold.proofs.Depths.{IsDeeper}
 use Rattle.cedar_conform.proofs.Items.{PassesItems}
 use Rattle.cedar_conform.proofs.Rows.{PassesRows}
 use Rattle.cedar_conform.proofs.values.+values.Given as goal
