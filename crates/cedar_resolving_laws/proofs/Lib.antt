@@ -3,5 +3,6 @@ pub mod Reordering
 pub mod MapsReordered
 pub mod WorldLaws
 pub mod OnceEach
+pub mod Spread
 pub mod WorldsReordered
 pub mod FragmentsReordered

@@ -128,7 +128,7 @@ keys_append : {K V : Type 0} (xs ys : List (K × V)) → keys_of (xs ++ ys) ≡ 
 keys_append [] ys = refl
 keys_append (x ∷ xs) ys = ap (λ ks. x.0 ∷ ks) (keys_append xs ys)
 
-keys_flat : {X K V : Type 0} (f : X → List (K × V)) (xs : List X) → keys_of (flat_map f xs) ≡ flat_map (λ x. keys_of (f x)) xs
+pub keys_flat : {X K V : Type 0} (f : X → List (K × V)) (xs : List X) → keys_of (flat_map f xs) ≡ flat_map (λ x. keys_of (f x)) xs
 keys_flat f [] = refl
 keys_flat f (x ∷ xs) = keys_append (f x) (flat_map f xs) ∙ ap (λ ks. keys_of (f x) ++ ks) (keys_flat f xs)
 

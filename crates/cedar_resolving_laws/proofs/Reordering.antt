@@ -29,7 +29,7 @@ past x [] zs = same
 past x (y ∷ ys) zs = both swapped (behind (past x ys zs))
 
 -- two lists change places
-exchanged : {A : Type 0} (xs ys zs : List A) → Reordered (xs ++ (ys ++ zs)) (ys ++ (xs ++ zs))
+pub exchanged : {A : Type 0} (xs ys zs : List A) → Reordered (xs ++ (ys ++ zs)) (ys ++ (xs ++ zs))
 exchanged [] ys zs = same
 exchanged (x ∷ xs) ys zs = both (behind (exchanged xs ys zs)) (past x ys (xs ++ zs))
 

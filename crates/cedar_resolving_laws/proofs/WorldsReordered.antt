@@ -1,5 +1,5 @@
 -- SPDX-License-Identifier: Apache-2.0
--- A world whose namespaces stand in another order is sound where the first is, and denotes the same schema.
+-- A world whose namespaces declare what those of another do is sound where that is, and denotes the same schema.
 use Rattle.std.proofs.Common.{◌≡◌, ◌++◌, ◌&&◌, Bool, true, false, cond, not, IsTrue, List, [], ◌∷◌, map, Option, Some, None, refl, sym, ap, ◌∙◌, subst}
 use Rattle.std.specs.BTreeMap.{is_at}
 use Rattle.std.specs.List.{AllZip, filter, filter_map, flat_map}
@@ -9,21 +9,21 @@ use Rattle.cedar_data.specs.Firsts.{AllPass, SomePasses}
 use Rattle.cedar_data.specs.Maps.{get}
 use Rattle.cedar_data.specs.Sets.{IsSetOf, contains}
 use Rattle.cedar_declared.specs.Names.{action_target, target}
-use Rattle.cedar_duplicates.specs.Duplicates.{same_declared}
+use Rattle.cedar_duplicates.specs.Duplicates.{Action, CommonType, EntityType, same_declared}
 use Rattle.cedar_names.specs.Components.{has_cedar}
 use Rattle.cedar_names.specs.Order.{words_cmp}
 use Rattle.cedar_phases.proofs.Agreeing.{same_action_target, same_builtins, same_entity, same_target, shadows_pass}
 use Rattle.cedar_phases.proofs.Chained.{chain_there, set_there}
 use Rattle.cedar_qualified.specs.Agreeing.{AgreeingNames}
-use Rattle.cedar_resolving_laws.specs.Reordered.{Reordered, with_namespaces}
+use Rattle.cedar_resolving_laws.specs.Reordered.{DeclareAlike, Reordered, with_namespaces}
 use Rattle.cedar_resolving_laws.proofs.MapsReordered.{map_of_reordered}
 use Rattle.cedar_resolving_laws.proofs.OnceEach.{Apart, actions_each, apart_each, apart_turned, commons_each, entities_each, once_of_apart}
-use Rattle.cedar_resolving_laws.proofs.Reordering.{Each2, any_reordered, each2_reordered, flat_reordered, followed, pass_reordered}
+use Rattle.cedar_resolving_laws.proofs.Reordering.{Each2, any_reordered, each2_reordered, pass_reordered}
+use Rattle.cedar_resolving_laws.proofs.Spread.{none_there, told, told_both, told_keys, told_map, with_more}
 use Rattle.cedar_schema_error.specs.FullNames.{FullName, Uid, uid_cmp}
 use Rattle.cedar_schema_error.specs.NameReferences.{ActionReference, NameReference}
-use Rattle.cedar_sound.specs.Sound.{ActionCycles, Duplicates, Passes, References, Sound, UndeclaredTypes, all_declared, declared_in}
+use Rattle.cedar_sound.specs.Sound.{ActionCycles, Duplicates, Passes, References, Sound, UndeclaredTypes, all_declared}
 use Rattle.cedar_sound.proofs.NameOrders.{names_exact, uids_exact}
-use Rattle.cedar_sound.proofs.NothingMissed.{none_of_all}
 use Rattle.cedar_text.specs.Words.{has_word}
 use Rattle.cedar_unfold.specs.Resolved.{Resolved}
 use Rattle.cedar_unfold.specs.Resolved as resolved
@@ -38,22 +38,6 @@ use Rattle.cedar_world.specs.Schemas.{EntityKind, EnumeratedKind, Schema, Schema
 use Rattle.cedar_world.specs.Undeclared.{IsUndeclared, all_entity_references, applications, entity_parents}
 use Rattle.cedar_world.specs.Worlds.{World, actions, all_namespaces, builtin_namespaces, common_types, entity_types, job, meanings, names, names_in, own, uses, uses_by}
 
-no_left : {A : Type 0} (xs ys : List A) → xs ++ ys ≡ [] → xs ≡ []
-no_left [] ys e = refl
-no_left (x ∷ xs) ys e = absurd (cc)
-
-no_right : {A : Type 0} (xs ys : List A) → xs ++ ys ≡ [] → ys ≡ []
-no_right [] ys e = e
-no_right (x ∷ xs) ys e = absurd (cc)
-
-none_of_each : {A B : Type 0} (f : A → List B) (xs : List A) → flat_map f xs ≡ [] → AllPass (λ x. f x ≡ []) xs
-none_of_each f [] e = tt
-none_of_each f (x ∷ xs) e = (no_left (f x) (flat_map f xs) e, none_of_each f xs (no_right (f x) (flat_map f xs) e))
-
--- nothing is given of all, in whatever order
-none_reordered : {A B : Type 0} (f : A → List B) {xs ys : List A} → Reordered xs ys → flat_map f xs ≡ [] → flat_map f ys ≡ []
-none_reordered f {xs} {ys} r e = none_of_all f ys (pass_reordered (λ x. f x ≡ []) r (none_of_each f xs e))
-
 none_kept : (p : FullName → Bool) (ns : List FullName) → filter p ns ≡ [] → AllPass (λ n. p n ≡ false) ns
 none_kept p [] e = tt
 none_kept p (n ∷ ns) e = by (p n) refl e (none_kept p ns)
@@ -66,13 +50,22 @@ keeps_none : (p : FullName → Bool) (ns : List FullName) → AllPass (λ n. p n
 keeps_none p [] h = refl
 keeps_none p (n ∷ ns) h = ap (λ b. cond b (n ∷ filter p ns) (filter p ns)) h.0 ∙ keeps_none p ns h.1
 
--- names of namespaces in another order
-agree_reordered : {xs ys : List Namespace} → Reordered xs ys → AgreeingNames (names_in xs) (names_in ys)
-agree_reordered r = record {
-  entity = λ n. any_reordered (is_at (words_cmp n)) (flat_reordered (λ ns. keys_of ns.entity_types) r);
-  common = λ n. any_reordered (is_at (words_cmp n)) (flat_reordered (λ ns. keys_of ns.common_types) r);
-  action = λ u. any_reordered (is_at (uid_cmp u)) (flat_reordered (λ ns. keys_of ns.actions) r);
+-- names of such namespaces
+agree_alike : (xs ys : List Namespace) → DeclareAlike xs ys → AgreeingNames (names_in xs) (names_in ys)
+agree_alike xs ys r = record {
+  entity = λ n. any_reordered (is_at (words_cmp n)) (told_keys (λ ns. ns.entity_types) xs ys r.entity_types);
+  common = λ n. any_reordered (is_at (words_cmp n)) (told_keys (λ ns. ns.common_types) xs ys r.common_types);
+  action = λ u. any_reordered (is_at (uid_cmp u)) (told_keys (λ ns. ns.actions) xs ys r.actions);
 }
+
+-- what they declare
+declared_alike : (xs ys : List Namespace) → DeclareAlike xs ys → Reordered (all_declared xs) (all_declared ys)
+declared_alike xs ys r =
+    told_both (λ ns. map CommonType (keys_of ns.common_types)) (λ ns. map EntityType (keys_of ns.entity_types) ++ map Action (keys_of ns.actions)) xs ys
+    (told_map (λ ns. keys_of ns.common_types) xs ys (told_keys (λ ns. ns.common_types) xs ys r.common_types) CommonType)
+    (told_both (λ ns. map EntityType (keys_of ns.entity_types)) (λ ns. map Action (keys_of ns.actions)) xs ys
+    (told_map (λ ns. keys_of ns.entity_types) xs ys (told_keys (λ ns. ns.entity_types) xs ys r.entity_types) EntityType)
+    (told_map (λ ns. keys_of ns.actions) xs ys (told_keys (λ ns. ns.actions) xs ys r.actions) Action))
 
 module _ (t : NameReference → Option FullName) (u : ActionReference → Option Uid) where
   abbrev undefined_by : List NameReference → List NameReference
@@ -94,23 +87,48 @@ module _ (t : NameReference → Option FullName) (u : ActionReference → Option
   abbrev actions_by : Namespace → List ActionReference
   actions_by ns = flat_map (λ a. filter (λ r. is_none (u r)) a.1.parents) ns.actions
 
-  abbrev memberships_by : Namespace → List FullName
-  memberships_by ns =
-      flat_map (λ e. filter_map t (parents_of e.1)) ns.entity_types
-      ++ flat_map (λ a. filter_map t a.1.principals ++ filter_map t a.1.resources ++ map (λ (uid : Uid). uid.ty) (filter_map u a.1.parents)) ns.actions
+  abbrev member_types : FullName × EntityDefinition NameReference → List FullName
+  member_types e = filter_map t (parents_of e.1)
 
-module _ (W : World) (ys : List Namespace) (r : Reordered W.namespaces ys) where
+  abbrev applied_types : Uid × ActionDefinition NameReference ActionReference → List FullName
+  applied_types a = filter_map t a.1.principals ++ filter_map t a.1.resources ++ map (λ (uid : Uid). uid.ty) (filter_map u a.1.parents)
+
+  abbrev memberships_by : Namespace → List FullName
+  memberships_by ns = flat_map member_types ns.entity_types ++ flat_map applied_types ns.actions
+
+-- what they miss, by the targets
+module _ (t : NameReference → Option FullName) (u : ActionReference → Option Uid) (xs ys : List Namespace) (r : DeclareAlike xs ys) where
+  misses_alike : Reordered (flat_map (namespace_by t u) xs) (flat_map (namespace_by t u) ys)
+  misses_alike =
+      told_both (λ ns. flat_map (λ c. missing_by t u c.1) ns.common_types ++ flat_map (λ e. entity_by t u e.1) ns.entity_types) (λ ns. flat_map (λ a. action_by t u a.1) ns.actions) xs ys
+      (told_both (λ ns. flat_map (λ c. missing_by t u c.1) ns.common_types) (λ ns. flat_map (λ e. entity_by t u e.1) ns.entity_types) xs ys
+      (told (λ ns. ns.common_types) xs ys r.common_types (λ c. missing_by t u c.1))
+      (told (λ ns. ns.entity_types) xs ys r.entity_types (λ e. entity_by t u e.1)))
+      (told (λ ns. ns.actions) xs ys r.actions (λ a. action_by t u a.1))
+
+  -- the actions that they miss
+  actions_alike : Reordered (flat_map (actions_by t u) xs) (flat_map (actions_by t u) ys)
+  actions_alike = told (λ ns. ns.actions) xs ys r.actions (λ a. filter (λ r. is_none (u r)) a.1.parents)
+
+  -- the types of which something is a member
+  memberships_alike : Reordered (flat_map (memberships_by t u) xs) (flat_map (memberships_by t u) ys)
+  memberships_alike =
+      told_both (λ ns. flat_map (member_types t u) ns.entity_types) (λ ns. flat_map (applied_types t u) ns.actions) xs ys
+      (told (λ ns. ns.entity_types) xs ys r.entity_types (member_types t u))
+      (told (λ ns. ns.actions) xs ys r.actions (applied_types t u))
+
+module _ (W : World) (ys : List Namespace) (r : DeclareAlike W.namespaces ys) where
   abbrev V : World
   V = with_namespaces W ys
 
   own_agree : AgreeingNames (own W) (own V)
-  own_agree = agree_reordered r
+  own_agree = agree_alike W.namespaces ys r
 
-  all_reordered : Reordered (all_namespaces W) (all_namespaces V)
-  all_reordered = subst (λ (b : List Namespace). Reordered (all_namespaces W) (ys ++ b)) (same_builtins (own W) (own V) own_agree W.extensions) (followed (builtin_namespaces (own W) W.extensions) r)
+  all_alike : DeclareAlike (all_namespaces W) (all_namespaces V)
+  all_alike = subst (λ (b : List Namespace). DeclareAlike (all_namespaces W) (ys ++ b)) (same_builtins (own W) (own V) own_agree W.extensions) (with_more (builtin_namespaces (own W) W.extensions) r)
 
   all_agree : AgreeingNames (names W) (names V)
-  all_agree = agree_reordered all_reordered
+  all_agree = agree_alike (all_namespaces W) (all_namespaces V) all_alike
 
   targets_same : target (names W) ≡ target (names V)
   targets_same = same_target (names W) (names V) all_agree
@@ -121,14 +139,14 @@ module _ (W : World) (ys : List Namespace) (r : Reordered W.namespaces ys) where
   references_there : Passes W References → Passes V References
   references_there h = (
     ap (λ (t : NameReference → Option FullName). flat_map (namespace_by t (action_target (names V))) (all_namespaces V)) (sym targets_same)
-        ∙ none_reordered (namespace_by (target (names W)) (action_target (names V))) all_reordered h.0,
+        ∙ none_there (misses_alike (target (names W)) (action_target (names V)) (all_namespaces W) (all_namespaces V) all_alike) h.0,
     (
       ap (λ (u : ActionReference → Option Uid). flat_map (actions_by (target (names V)) u) (all_namespaces V)) (sym action_targets_same)
-          ∙ none_reordered (actions_by (target (names V)) (action_target (names W))) all_reordered h.1.0,
+          ∙ none_there (actions_alike (target (names V)) (action_target (names W)) (all_namespaces W) (all_namespaces V) all_alike) h.1.0,
       (
         ap (λ (ns : List FullName). filter has_cedar ns) (λ i. flat_map (memberships_by (sym targets_same i) (sym action_targets_same i)) (all_namespaces V))
             ∙ keeps_none has_cedar (flat_map (memberships (names W)) (all_namespaces V))
-            (pass_reordered (λ n. has_cedar n ≡ false) (flat_reordered (memberships (names W)) all_reordered) (none_kept has_cedar (flat_map (memberships (names W)) (all_namespaces W)) h.1.1.0)),
+            (pass_reordered (λ n. has_cedar n ≡ false) (memberships_alike (target (names W)) (action_target (names W)) (all_namespaces W) (all_namespaces V) all_alike) (none_kept has_cedar (flat_map (memberships (names W)) (all_namespaces W)) h.1.1.0)),
         tt,
       ),
     ),
@@ -139,16 +157,16 @@ module _ (W : World) (ys : List Namespace) (r : Reordered W.namespaces ys) where
     apart = apart_each same_declared [] (all_declared (all_namespaces W)) once
 
     duplicates_there : Passes V Duplicates
-    duplicates_there = once_of_apart same_declared (all_declared (all_namespaces V)) (each2_reordered (Apart same_declared) apart_turned (flat_reordered declared_in all_reordered) apart)
+    duplicates_there = once_of_apart same_declared (all_declared (all_namespaces V)) (each2_reordered (Apart same_declared) apart_turned (declared_alike (all_namespaces W) (all_namespaces V) all_alike) apart)
 
     commons_same : common_types W ≡ common_types V
-    commons_same = map_of_reordered names_exact.total (flat_reordered (λ ns. ns.common_types) all_reordered) (commons_each (all_namespaces W) apart)
+    commons_same = map_of_reordered names_exact.total all_alike.common_types (commons_each (all_namespaces W) apart)
 
     types_same : entity_types W ≡ entity_types V
-    types_same = map_of_reordered names_exact.total (flat_reordered (λ ns. ns.entity_types) all_reordered) (entities_each (all_namespaces W) apart)
+    types_same = map_of_reordered names_exact.total all_alike.entity_types (entities_each (all_namespaces W) apart)
 
     actions_same : actions W ≡ actions V
-    actions_same = map_of_reordered uids_exact.total (flat_reordered (λ ns. ns.actions) all_reordered) (actions_each (all_namespaces W) apart)
+    actions_same = map_of_reordered uids_exact.total all_alike.actions (actions_each (all_namespaces W) apart)
 
     uses_same : uses W ≡ uses V
     uses_same = λ i. uses_by (types_same i) (actions_same i)
@@ -246,9 +264,9 @@ module _ (W : World) (ys : List Namespace) (r : Reordered W.namespaces ys) where
     }
 
   -- it is sound where the first is
-  pub sound_reordered : Sound W → Sound V
+  pub sound_alike : Sound W → Sound V
   unfolding Sound
-  sound_reordered h =
+  sound_alike h =
       let once = h.1.1.0 in (
         shadows_pass (own W) (own V) own_agree h.0,
         (
@@ -267,6 +285,6 @@ module _ (W : World) (ys : List Namespace) (r : Reordered W.namespaces ys) where
       )
 
   -- and denotes what the first does
-  pub denotes_reordered : (S : Schema) → Sound W → Denotes W S → Denotes V S
+  pub denotes_alike : (S : Schema) → Sound W → Denotes W S → Denotes V S
   unfolding Sound
-  denotes_reordered S h d = schema_there h.1.1.0 S d
+  denotes_alike S h d = schema_there h.1.1.0 S d

@@ -4,7 +4,7 @@ ghost use Rattle.cedar_declared.specs.Names.{is_declared};
 ghost use Rattle.cedar_names.specs.Components.{has_cedar};
 ghost use Rattle.cedar_names.specs.declared.extensions.Extensions.{Extensions};
 ghost use Rattle.cedar_phases.specs.Holding.{Fragment, world_of};
-ghost use Rattle.cedar_resolving_laws.specs.Reordered.{Reordered, with_namespaces};
+ghost use Rattle.cedar_resolving_laws.specs.Reordered.{DeclareAlike, Reordered, with_namespaces};
 ghost use Rattle.cedar_schema_error.specs.FullNames.{FullName, Uid};
 ghost use Rattle.cedar_sound.specs.Sound.{Sound};
 ghost use Rattle.cedar_world.specs.Definitions.{Namespace};
@@ -36,9 +36,21 @@ pub fn descents()
     ensures none { (W : World) (u : Uid) → Sound W → ActionDescendsFrom W u u → ⊥ }
 {}
 
+/// A law: where namespaces declare what those of a sound world declare, in whatever order, and spread over whatever
+/// namespaces, the world of them is sound, and denotes the same schema. It does nothing when it runs.
+#[tactic(auto, using(crate::proofs::WorldsReordered::sound_alike, crate::proofs::WorldsReordered::denotes_alike))]
+pub fn same_declarations()
+    ensures sound { (W : World) (all : List Namespace) → DeclareAlike W.namespaces all → Sound W
+        → Sound (with_namespaces W all) }
+    ensures denotes { (W : World) (all : List Namespace) → DeclareAlike W.namespaces all
+        → (S : Schema)
+        → Sound W
+        → Denotes W S → Denotes (with_namespaces W all) S }
+{}
+
 /// A law: where the namespaces of a sound world stand in another order, the world is sound, and denotes the same schema;
 /// so it is with fragments in another order. It does nothing when it runs.
-#[tactic(auto, using(crate::proofs::WorldsReordered::sound_reordered, crate::proofs::WorldsReordered::denotes_reordered, crate::proofs::FragmentsReordered::fragments_sound, crate::proofs::FragmentsReordered::fragments_denote))]
+#[tactic(auto, using(crate::proofs::FragmentsReordered::sound_reordered, crate::proofs::FragmentsReordered::denotes_reordered, crate::proofs::FragmentsReordered::fragments_sound, crate::proofs::FragmentsReordered::fragments_denote))]
 pub fn orders_of_fragments()
     ensures sound { (W : World) (all : List Namespace) → Reordered W.namespaces all → Sound W
         → Sound (with_namespaces W all) }

@@ -4,4 +4,4 @@
 
 mod laws;
 
-pub use laws::{descents, one_possibility, orders_of_fragments};
+pub use laws::{descents, one_possibility, orders_of_fragments, same_declarations};

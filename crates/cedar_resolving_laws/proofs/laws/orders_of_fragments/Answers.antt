@@ -1,6 +1,5 @@
 -- SPDX-License-Identifier: Apache-2.0
-use Rattle.cedar_resolving_laws.proofs.FragmentsReordered.{fragments_denote}
-use Rattle.cedar_resolving_laws.proofs.WorldsReordered.{denotes_reordered}
+use Rattle.cedar_resolving_laws.proofs.FragmentsReordered.{denotes_reordered, fragments_denote}
 use Rattle.cedar_resolving_laws.proofs.laws.orders_of_fragments.Goals as goal
 
 pub returns-clause-denotes : goal.returns-clause-denotes
