@@ -22,7 +22,7 @@ use cedar_merge::{MergeError, merge};
 use std::alloc::Global;
 
 /// A law: a fragment that says what several say together, of which no two declare the same, is sound where all of them
-/// together are, and then denotes the same schema. All of them stand in the order of their names, as each fragment does
+/// together are, and then denotes the same schema. It and they stand in the order of their names, as each fragment does
 /// that stands as a `Fragment`. It does nothing when it runs.
 pub fn meaning_together()
     ensures { (L : List Held) (F : Held) → AllPass (λ f. InOrder (fragment_seen f)) L
@@ -40,7 +40,7 @@ pub fn definitions_together()
 {}
 
 /// A law: what fragments are merged into in another order says the same, the places of the annotations of its namespaces
-/// aside, each of which is the place in one of the fragments. It does nothing when it runs.
+/// aside, where both stand in the order of their names. It does nothing when it runs.
 pub fn orders_of_merged()
     ensures { (L M : List Held) → IsPermutation L M → (F G : Held) → Merged L F → Merged M G
         → InOrder (fragment_seen F)
