@@ -99,6 +99,11 @@ NAMES = [("1 namespace", lambda n: texts.across(n, 1), 5000, 0), ("50 namespaces
 UNFOLDING = [("a chain", texts.chain, 20000, 0), ("all of one type", texts.star, 20000, 0), ("a cycle", texts.cycle, 20000, 1),
              ("cycles of two behind a chain", texts.cycles_behind, 10000, 1), ("many attributes of one type", texts.one_type, 100000, 0)]
 
+REVIEWS = [(("conform",), "entities", texts.entities, 20000, 0), (("request",), "requests", texts.requests, 20000, 0),
+           (("compat",), "a generated schema and itself", texts.both, 5000, 0),
+           (("merge",), "schemas of a namespace each", texts.one_namespace_each, 5000, 0),
+           (("merge",), "schemas with one namespace", texts.one_namespace_in_all, 20000, 0)]
+
 
 def print_conversion(program):
     """From the text to the fragment: an entity type named `Action` refuses the text right behind its conversion."""
@@ -134,6 +139,8 @@ def main():
     print_growth(program, "`check`, names", ("check",), NAMES)
     print_growth(program, "`check`, common types", ("check",), UNFOLDING)
     print_doublings(program)
+    for words, *case in REVIEWS:
+        print_growth(program, f"`{words[0]}`", words, [case])
 
 
 if __name__ == "__main__":

@@ -252,3 +252,42 @@ def json_full():
     while len(json_declarations(n)) > LIMIT:
         n -= 500
     return n, json_declarations(n)
+
+
+# ---- objects in JSON that commands review
+
+COMPANY = ("entity Team, Folder; entity User in [Team] { name: String, age?: Long, friends: Set<User> } tags String;"
+           " action view, edit appliesTo { principal: [Team, User], resource: [Folder, User], context: { ip?: String } };")
+
+
+def reference(ty, name):
+    return {"type": ty, "id": name}
+
+
+def entities(n):
+    """So many entities, each with a friend, a parent and a tag."""
+    members = [{"uid": reference("User", f"u{i}"), "attrs": {"name": f"n{i}", "age": i, "friends": [reference("User", f"u{i // 2}")]},
+                "parents": [reference("Team", f"t{i % 100}")], "tags": {"k": "v"}} for i in range(n)]
+    return json.dumps({"schema": COMPANY, "entities": members})
+
+
+def requests(n):
+    """So many requests."""
+    asked = [{"principal": reference("User", f"u{i}"), "action": reference("Action", ("view", "edit")[i % 2]),
+              "resource": reference(("Folder", "User")[i % 2], f"r{i}"), "context": {"ip": "10.0.0.1"}} for i in range(n)]
+    return json.dumps({"schema": COMPANY, "requests": asked})
+
+
+def both(n):
+    """A generated schema as the old and as the new one."""
+    return json.dumps({"old": generated(n), "new": generated(n)})
+
+
+def one_namespace_each(n):
+    """So many schemas of a namespace each."""
+    return json.dumps({"schemas": [EVERY.format(i=i).strip() for i in range(n)]})
+
+
+def one_namespace_in_all(n):
+    """So many schemas with a declaration in one namespace each."""
+    return json.dumps({"schemas": [f"namespace N {{ entity E{i} in [F] {{ a: Long }}; }}" for i in range(n)]})

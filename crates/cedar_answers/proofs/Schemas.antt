@@ -13,7 +13,7 @@ use Rattle.cedar_schema_errors.specs.declared.schema_error.CedarSchemaError.{Ced
 use Rattle.cedar_schema_errors.specs.declared.schema_error.CedarSchemaError.TheVariants.{Parsing, Schema}
 use Rattle.cedar_answers.specs.Causes.{JsonTextCause}
 use Rattle.cedar_answers.specs.Making.{IsSchemaOf, IsJsonSchemaOf, MakesJsonListing, TellsJsonSchema, TellsSchema}
-use Rattle.cedar_answers.specs.Refusal.{refusal_text}
+use Rattle.cedar_reviews.specs.Refusal.{refusal_text}
 
 module _ (text : List ℕ) (extensions : List (List ℕ)) where
   -- this is written of the schema that the text denotes, and of its warnings

@@ -6,8 +6,6 @@ use Rattle.cedar_data.specs.Answers.{IfRefused}
 use Rattle.cedar_data.specs.declared.memory.Failure.{Failure}
 use Rattle.cedar_data.specs.declared.memory.Failure.TheVariants.{Refused, NoMemory}
 use Rattle.cedar_fmt.specs.Collisions.{collisions}
-use Rattle.cedar_fmt.specs.Texts.{kept_names}
-use Rattle.cedar_fmt.specs.declared.errors.ToCedarSchemaSyntaxError.{ToCedarSchemaSyntaxError}
 use Rattle.cedar_fragment.specs.ActionUids.{over_raw}
 use Rattle.cedar_fragment.specs.declared.definitions.Fragment.{Fragment}
 use Rattle.cedar_json.specs.TextFaults.{IsFragmentText, advised_fault}
@@ -15,17 +13,10 @@ use Rattle.cedar_json_fault.specs.declared.json_error.JsonDeserializationError.{
 use Rattle.cedar_schema_json.proofs.OneShape.{text_clean, text_once}
 use Rattle.cedar_written.specs.declared.raw_name.RawName.{RawName}
 use Rattle.cedar_answers.specs.Making.{CanBePrinted}
-use Rattle.cedar_answers.specs.Printing.{TellsCollisionsOf, TellsUnprintable}
-use Rattle.cedar_answers.specs.Refusal.{collisions_refusal}
+use Rattle.cedar_answers.specs.Printing.{TellsUnprintable}
+use Rattle.cedar_reviews.specs.Printing.{TellsCollisionsOf}
 
--- what is told of a fragment whose names collide
-pub collisions-told : (F : Fragment RawName over_raw) (e : ToCedarSchemaSyntaxError) → kept_names e ≡ collisions F → {T : Type 0} (r : Result T (Failure (String Global)))
-    → IfRefused r (λ told. string_bytes told ≡ collisions_refusal e) → IfRefused r (λ told. TellsCollisionsOf F (string_bytes told))
-collisions-told F e kept (Ok value) is = tt
-collisions-told F e kept (Err (Refused told)) is = (e, kept, is)
-collisions-told F e kept (Err NoMemory) is = tt
-
--- which is told of a text that has the shape of the fragment
+-- what is told of a fragment whose names collide is told of a text that has its shape
 pub unprintable-told : (text : List ℕ) (F : Fragment RawName over_raw) → IsFragmentText text F → {T : Type 0} (r : Result T (Failure (String Global)))
     → IfRefused r (λ told. TellsCollisionsOf F (string_bytes told)) → IfRefused r (λ told. TellsUnprintable text (string_bytes told))
 unprintable-told text F shape (Ok value) is = tt

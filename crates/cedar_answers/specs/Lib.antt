@@ -4,5 +4,3 @@ pub mod Causes
 pub mod Made
 pub mod Making
 pub mod Printing
-pub mod RawNames
-pub mod Refusal

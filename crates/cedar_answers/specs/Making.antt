@@ -3,7 +3,7 @@
 use Rattle.std.specs.Prelude.{◌≡◌, ◌⊎◌, ℕ, List, [], ◌++◌, Some, codes}
 use Rattle.serde_json.specs.Written.{compact_text}
 use Rattle.cedar_commands.specs.declared.command.Command.{Command}
-use Rattle.cedar_commands.specs.declared.command.Command.TheVariants.{Resolve, ResolveJson, Check, ToJson, ToCedar, Bench}
+use Rattle.cedar_commands.specs.declared.command.Command.TheVariants.{Resolve, ResolveJson, Check, ToJson, ToCedar, Review, Bench}
 use Rattle.cedar_convert_fragment.specs.Fragments as declared_fragments
 use Rattle.cedar_convert_fragment.specs.Views.{fragment_seen}
 use Rattle.cedar_convert_text.specs.Texts.{DeclaresText}
@@ -29,8 +29,9 @@ use Rattle.cedar_schema_errors.specs.declared.schema_error.CedarSchemaError.{Ced
 use Rattle.cedar_schema_errors.specs.declared.schema_error.CedarSchemaError.TheVariants.{Schema}
 use Rattle.cedar_schema_json.specs.JsonSchemas as json
 use Rattle.cedar_written.specs.declared.raw_name.RawName.{RawName}
-use Rattle.cedar_answers.specs.Refusal.{collisions_refusal, refusal_text}
-use Rattle.cedar_answers.specs.RawNames.{raw_text}
+use Rattle.cedar_reviews.specs.Refusal.{collisions_refusal, refusal_text}
+use Rattle.cedar_reviews.specs.Reviewing.{IsReviewable, MakesReview, TellsReview}
+use Rattle.cedar_reviews.specs.RawNames.{raw_text}
 
 -- ---- what a text denotes or declares
 
@@ -84,6 +85,7 @@ Makes ResolveJson text extensions due = MakesJsonListing text extensions due
 Makes Check text extensions due = MakesCounts text extensions due
 Makes ToJson text extensions due = MakesJson text extensions due
 Makes ToCedar text extensions due = MakesCedar text due
+Makes (Review review) text extensions due = MakesReview review text extensions due
 Makes (Bench n) text extensions due = MakesCounts text extensions due
 
 -- ---- why a text is refused: what is told
@@ -118,6 +120,7 @@ Tells ResolveJson text extensions told = TellsJsonSchema text extensions told
 Tells Check text extensions told = TellsSchema text extensions told
 Tells ToJson text extensions told = TellsParsing text told
 Tells ToCedar text extensions told = TellsFault text told ⊎ TellsCollisions text told
+Tells (Review review) text extensions told = TellsReview review text extensions told
 Tells (Bench n) text extensions told = TellsSchema text extensions told
 
 -- ---- which texts a command accepts
@@ -141,4 +144,5 @@ Accepts ResolveJson text extensions = DenotesAnyInJson text extensions
 Accepts Check text extensions = DenotesAny text extensions
 Accepts ToJson text extensions = DeclaresAny text extensions
 Accepts ToCedar text extensions = (F : Fragment RawName over_raw) × CanBePrinted text F
+Accepts (Review review) text extensions = IsReviewable review text extensions
 Accepts (Bench n) text extensions = DenotesAny text extensions

@@ -6,6 +6,7 @@ ghost use Rattle.cedar_names.specs.Extensions.{extension_words};
 use crate::check::answer_check;
 use crate::resolve::answer_resolve;
 use crate::resolve_json::answer_resolve_json;
+use crate::review::answer_review;
 use crate::to_cedar::answer_to_cedar;
 use crate::to_json::answer_to_json;
 use cedar_commands::{Command, Status};
@@ -43,6 +44,7 @@ pub fn answer_text<K: Sink, E: Sink>(
         Command::Check => answer_check(alloc, text, extensions, out, err),
         Command::ToJson => answer_to_json(alloc, text, extensions, out, err),
         Command::ToCedar => answer_to_cedar(alloc, text, out, err),
+        Command::Review(review) => answer_review(alloc, review, text, extensions, out, err),
         Command::Bench(_) => answer_check(alloc, text, extensions, out, err),
     }
 }

@@ -2,7 +2,7 @@
 ghost use Rattle.cedar_answers.specs.Answers.{Answers, IsAcceptance};
 ghost use Rattle.cedar_answers.specs.Made.{AnswersMade};
 ghost use Rattle.cedar_answers.specs.Making.{DenotesAny, MakesCounts, TellsSchema};
-ghost use Rattle.cedar_answers.specs.Refusal.{refusal_text};
+ghost use Rattle.cedar_reviews.specs.Refusal.{refusal_text};
 ghost use Rattle.cedar_listing.specs.Counts.{counts};
 ghost use Rattle.cedar_names.specs.Extensions.{extension_words};
 

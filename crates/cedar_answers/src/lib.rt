@@ -5,10 +5,11 @@
 mod answering;
 mod check;
 mod output;
-mod refusal;
 mod resolve;
 mod resolve_json;
+mod review;
 mod to_cedar;
 mod to_json;
 
 pub use answering::answer_text;
+pub use cedar_listing::{write_counts, write_listing};

@@ -2,16 +2,16 @@
 ghost use Rattle.std.specs.String.{string_bytes};
 ghost use Rattle.cedar_answers.specs.Answers.{Puts, Rejects};
 ghost use Rattle.cedar_answers.specs.Made.{AnswersMade};
-ghost use Rattle.cedar_answers.specs.Refusal.{refusal_text};
+ghost use Rattle.cedar_reviews.specs.Refusal.{refusal_text};
 ghost use Rattle.cedar_listing.specs.Counts.{counts};
 ghost use Rattle.cedar_listing.specs.Listing.{listing};
 
-use crate::refusal::refusal_text;
 use cedar_commands::Status;
 use cedar_convert_warnings::SchemaWarning;
 use cedar_data::{Failure, Out};
 use cedar_listing::{write_counts, write_listing};
 use cedar_resolved::ValidatorSchema;
+use cedar_reviews::refusal_text;
 use cedar_schema_errors::CedarSchemaError;
 use cedar_streams::{Sink, SinkFailed, write_str};
 use std::alloc::Global;

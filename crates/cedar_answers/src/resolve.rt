@@ -2,7 +2,7 @@
 ghost use Rattle.cedar_answers.specs.Answers.{Answers, IsAcceptance};
 ghost use Rattle.cedar_answers.specs.Made.{AnswersMade};
 ghost use Rattle.cedar_answers.specs.Making.{DenotesAny, MakesListing, TellsSchema};
-ghost use Rattle.cedar_answers.specs.Refusal.{refusal_text};
+ghost use Rattle.cedar_reviews.specs.Refusal.{refusal_text};
 ghost use Rattle.cedar_listing.specs.Listing.{listing};
 ghost use Rattle.cedar_names.specs.Extensions.{extension_words};
 

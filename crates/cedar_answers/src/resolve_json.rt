@@ -4,7 +4,7 @@ ghost use Rattle.cedar_answers.specs.Answers.{Answers, IsAcceptance};
 ghost use Rattle.cedar_answers.specs.Causes.{JsonTextCause};
 ghost use Rattle.cedar_answers.specs.Made.{AnswersMade};
 ghost use Rattle.cedar_answers.specs.Making.{DenotesAnyInJson, IsJsonSchemaOf, MakesJsonListing, TellsJsonSchema};
-ghost use Rattle.cedar_answers.specs.Refusal.{refusal_text};
+ghost use Rattle.cedar_reviews.specs.Refusal.{refusal_text};
 ghost use Rattle.cedar_data.specs.Answers.{Accepts, IfRefused};
 ghost use Rattle.cedar_listing.specs.Listing.{listing};
 ghost use Rattle.cedar_names.specs.Extensions.{extension_words};

@@ -1,22 +1,20 @@
 // SPDX-License-Identifier: Apache-2.0
-ghost use Rattle.std.specs.Prelude.{◌≡◌, ⊤, [], IfOk};
+ghost use Rattle.std.specs.Prelude.{⊤, IfOk};
 ghost use Rattle.std.specs.String.{string_bytes};
 ghost use Rattle.cedar_answers.specs.Answers.{Answers, IsAcceptance};
 ghost use Rattle.cedar_answers.specs.Making.{CanBePrinted, MakesCedar};
-ghost use Rattle.cedar_answers.specs.Printing.{IsPrintedAs, TellsCollisionsOf, TellsUnprintable};
+ghost use Rattle.cedar_answers.specs.Printing.{TellsUnprintable};
 ghost use Rattle.cedar_data.specs.Answers.{Accepts, IfRefused};
-ghost use Rattle.cedar_fmt.specs.Collisions.{collisions};
 ghost use Rattle.cedar_fragment.specs.ActionUids.{over_raw};
 ghost use Rattle.cedar_fragment.specs.declared.definitions.Fragment.{Fragment as Shaped};
 ghost use Rattle.cedar_written.specs.declared.raw_name.RawName.{RawName as Raw};
 
 use crate::output::answer_written;
-use crate::refusal::{refused, refused_for_collisions};
 use cedar_commands::Status;
 use cedar_data::{Failure, Out};
-use cedar_fmt::json_schema_to_cedar_schema_str;
-use cedar_fragment::{Fragment, RawName};
+use cedar_fragment::Fragment;
 use cedar_json::FragmentJson;
+use cedar_reviews::{printed, refused};
 use cedar_schema_error::SchemaError;
 use cedar_schema_errors::CedarSchemaError;
 use cedar_streams::Sink;
@@ -53,19 +51,6 @@ fn cedar_text(alloc: Global, text: &str) -> Out<String, String>
             let error = SchemaError::JsonDeserialization(error);
             refused(alloc, CedarSchemaError::Schema(error))
         }
-        Err(Failure::NoMemory) => Err(Failure::NoMemory),
-    }
-}
-
-/// The fragment in the human syntax; or what is told of the names that stand for two types.
-fn printed(alloc: Global, fragment: Fragment<RawName>) -> Out<String, String>
-    ensures due { IfOk result (λ due. IsPrintedAs fragment (string_bytes due)) }
-    ensures told { IfRefused result (λ told. TellsCollisionsOf fragment (string_bytes told)) }
-    ensures accepts { collisions fragment ≡ [] → Accepts (λ _. ⊤) result }
-{
-    match json_schema_to_cedar_schema_str(alloc, &fragment) {
-        Ok(text) => Ok(text),
-        Err(Failure::Refused(error)) => refused_for_collisions(alloc, error),
         Err(Failure::NoMemory) => Err(Failure::NoMemory),
     }
 }

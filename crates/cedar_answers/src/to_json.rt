@@ -9,13 +9,13 @@ ghost use Rattle.cedar_json_write.specs.Written.{fragment_json};
 ghost use Rattle.cedar_names.specs.Extensions.{extension_words};
 
 use crate::output::answer_written;
-use crate::refusal::refused;
 use cedar_commands::Status;
 use cedar_convert_warnings::SchemaWarning;
 use cedar_data::{Failure, Mem, Out};
 use cedar_fragment::{Fragment, RawName};
 use cedar_json_write::fragment_text;
 use cedar_names::Extensions;
+use cedar_reviews::refused;
 use cedar_schema_json::FragmentText;
 use cedar_streams::Sink;
 use std::alloc::Global;

@@ -22,7 +22,8 @@ use Rattle.cedar_streams.proofs.InLoop.{item_at}
 use Rattle.cedar_commands.specs.Asking.{AskFor, AskForNothing, AsksNamed, Begin, BeginWithNone, FoundNamed, FoundNumber, FoundOptions, FoundPlain, NamedBy, NoNumber, Number}
 use Rattle.cedar_commands.specs.CommandLine.{AreNamed, Asks, AsksOptions, TakesNumber, available, command_words, ext_words}
 use Rattle.cedar_commands.specs.declared.command.Command.{Command}
-use Rattle.cedar_commands.specs.declared.command.Command.TheVariants.{Resolve, ResolveJson, Check, ToJson, ToCedar, Bench}
+use Rattle.cedar_commands.specs.declared.command.Command.TheVariants.{Resolve, ResolveJson, Check, ToJson, ToCedar, Review, Bench}
+use Rattle.cedar_commands.specs.declared.command.Review.TheVariants.{Conform, Request, Merge, Compat}
 
 not_false : (t : Bool) → not t ≡ false → t ≡ true
 not_false true e = refl
@@ -232,10 +233,15 @@ begin-none words e ResolveJson options b = cc (e, b.begins)
 begin-none words e Check options b = cc (e, b.begins)
 begin-none words e ToJson options b = cc (e, b.begins)
 begin-none words e ToCedar options b = cc (e, b.begins)
+begin-none words e (Review review) options b = cc (e, b.begins)
 begin-none words e (Bench n) options b = cc (e, b.begins)
 
 pub begin-unsized : (words others : List (List ℕ)) (word : List ℕ) → words ≡ word ∷ others → word ≡ codes "bench" → NoNumber others → BeginWithNone words
 begin-unsized words others word e w none (Bench n) options b = none n options (record { begins = cc (e, b.begins); takes = b.number })
+begin-unsized words others word e w none (Review Conform) options b = absurd (other_head _ _ _ _ (ap (λ v. v ∷ others) (sym w) ∙ sym e ∙ b.begins) refl)
+begin-unsized words others word e w none (Review Request) options b = absurd (other_head _ _ _ _ (ap (λ v. v ∷ others) (sym w) ∙ sym e ∙ b.begins) refl)
+begin-unsized words others word e w none (Review Merge) options b = absurd (other_head _ _ _ _ (ap (λ v. v ∷ others) (sym w) ∙ sym e ∙ b.begins) refl)
+begin-unsized words others word e w none (Review Compat) options b = absurd (other_head _ _ _ _ (ap (λ v. v ∷ others) (sym w) ∙ sym e ∙ b.begins) refl)
 begin-unsized words others word e w none command options b = absurd (other_head _ _ _ _ (ap (λ v. v ∷ others) (sym w) ∙ sym e ∙ b.begins) refl)
 
 pub begin-sized : (words others options : List (List ℕ)) (word : List ℕ) (n : ℕ) → words ≡ word ∷ others → word ≡ codes "bench" → Number others n options → Begin words (Bench n) options
@@ -247,6 +253,7 @@ begin-unknown words others word e other none ResolveJson options b = none Resolv
 begin-unknown words others word e other none Check options b = none Check (cc (e, b.begins))
 begin-unknown words others word e other none ToJson options b = none ToJson (cc (e, b.begins))
 begin-unknown words others word e other none ToCedar options b = none ToCedar (cc (e, b.begins))
+begin-unknown words others word e other none (Review review) options b = none (Review review) (cc (e, b.begins))
 begin-unknown words others word e other none (Bench n) options b = other (cc (e, b.begins))
 
 pub begin-plain : (words others : List (List ℕ)) (word : List ℕ) (command : Command) → words ≡ word ∷ others → FoundPlain word (Some command) → Begin words command others
@@ -259,7 +266,19 @@ one_command ResolveJson ResolveJson o p m n e = (refl, (cc))
 one_command Check Check o p m n e = (refl, (cc))
 one_command ToJson ToJson o p m n e = (refl, (cc))
 one_command ToCedar ToCedar o p m n e = (refl, (cc))
+one_command (Review Conform) (Review Conform) o p m n e = (refl, (cc))
+one_command (Review Request) (Review Request) o p m n e = (refl, (cc))
+one_command (Review Merge) (Review Merge) o p m n e = (refl, (cc))
+one_command (Review Compat) (Review Compat) o p m n e = (refl, (cc))
 one_command (Bench a) (Bench b) o p m n e = (ap (λ k. Bench k) (decimal_injective a b (omega arith) (omega arith) (cc)), (cc))
+one_command c (Review Conform) o p m n e = absurd (other_head _ _ _ _ e refl)
+one_command c (Review Request) o p m n e = absurd (other_head _ _ _ _ e refl)
+one_command c (Review Merge) o p m n e = absurd (other_head _ _ _ _ e refl)
+one_command c (Review Compat) o p m n e = absurd (other_head _ _ _ _ e refl)
+one_command (Review Conform) d o p m n e = absurd (other_head _ _ _ _ e refl)
+one_command (Review Request) d o p m n e = absurd (other_head _ _ _ _ e refl)
+one_command (Review Merge) d o p m n e = absurd (other_head _ _ _ _ e refl)
+one_command (Review Compat) d o p m n e = absurd (other_head _ _ _ _ e refl)
 one_command c d o p m n e = absurd (other_head _ _ _ _ e refl)
 
 -- all words

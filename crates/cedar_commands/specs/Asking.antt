@@ -4,9 +4,10 @@ use Rattle.std.specs.Prelude.{◌≡◌, ℕ, List, [], ◌∷◌, ◌++◌, Opt
 use Rattle.cedar_names.specs.ExtensionFaults.{extensions_fault}
 use Rattle.cedar_names.specs.Extensions.{extension_words}
 use Rattle.cedar_names.specs.declared.extensions.Extensions.{Extensions}
-use Rattle.cedar_commands.specs.CommandLine.{AreNamed, Asks, AsksOptions, TakesNumber, command_words, ext_words}
+use Rattle.cedar_commands.specs.CommandLine.{AreNamed, Asks, AsksOptions, TakesNumber, command_words, ext_words, review_word}
 use Rattle.cedar_commands.specs.declared.command.Command.{Command}
 use Rattle.cedar_commands.specs.declared.command.Command.TheVariants.{Bench}
+use Rattle.cedar_commands.specs.declared.command.Review.{Review as Reviewing}
 
 -- ---- all words
 
@@ -51,6 +52,11 @@ FoundNumber word found =
 abbrev pub FoundPlain : List ℕ → Option Command → Type 0
 FoundPlain word found =
     MatchOption found ((command : Command) → command_words command ≡ word ∷ [] → ⊥) (λ command. (command_words command ≡ word ∷ []) × TakesNumber command)
+
+-- the same of a command that asks for a review
+abbrev pub FoundReview : List ℕ → Option Command → Type 0
+FoundReview word found =
+    MatchOption found ((review : Reviewing) → review_word review ≡ word → ⊥) (λ command. (command_words command ≡ word ∷ []) × TakesNumber command)
 
 -- ---- the words behind it
 

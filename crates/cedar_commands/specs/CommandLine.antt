@@ -6,7 +6,16 @@ use Rattle.cedar_names.specs.ExtensionFaults.{extensions_fault}
 use Rattle.cedar_names.specs.Order.{word_cmp}
 use Rattle.cedar_text.specs.Words.{has_word}
 use Rattle.cedar_commands.specs.declared.command.Command.{Command}
-use Rattle.cedar_commands.specs.declared.command.Command.TheVariants.{Resolve, ResolveJson, Check, ToJson, ToCedar, Bench}
+use Rattle.cedar_commands.specs.declared.command.Command.TheVariants.{Resolve, ResolveJson, Check, ToJson, ToCedar, Review, Bench}
+use Rattle.cedar_commands.specs.declared.command.Review.{Review as Reviewing}
+use Rattle.cedar_commands.specs.declared.command.Review.TheVariants.{Conform, Request, Merge, Compat}
+
+-- the word of a review
+abbrev pub review_word : Reviewing → List ℕ
+review_word Conform = codes "conform"
+review_word Request = codes "request"
+review_word Merge = codes "merge"
+review_word Compat = codes "compat"
 
 -- the words of a command
 abbrev pub command_words : Command → List (List ℕ)
@@ -15,6 +24,7 @@ command_words ResolveJson = codes "resolve-json" ∷ []
 command_words Check = codes "check" ∷ []
 command_words ToJson = codes "to-json" ∷ []
 command_words ToCedar = codes "to-cedar" ∷ []
+command_words (Review review) = review_word review ∷ []
 command_words (Bench n) = codes "bench" ∷ decimal n ∷ []
 
 -- the number of a command, if it has one, is one that it takes
@@ -24,6 +34,7 @@ TakesNumber ResolveJson = Unit {0}
 TakesNumber Check = Unit {0}
 TakesNumber ToJson = Unit {0}
 TakesNumber ToCedar = Unit {0}
+TakesNumber (Review review) = Unit {0}
 TakesNumber (Bench n) = (1 ≤ n) × (n ≤ 5000)
 
 -- the extension types that are known where the words name none

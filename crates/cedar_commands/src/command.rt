@@ -16,12 +16,33 @@ pub enum Command {
     ToJson,
     /// To write in the human syntax what a text in JSON declares.
     ToCedar,
+    /// To review what an object in JSON holds.
+    Review(Review),
     /// To count what the generated schema of this size has.
     Bench(u32),
 }
 
+/// What is asked of an object in JSON that holds schemas, and perhaps data.
+#[derive(Clone, Copy, Debug, PartialEq, Eq)]
+pub enum Review {
+    /// Whether entities conform to a schema.
+    Conform,
+    /// To which request environments of a schema requests belong.
+    Request,
+    /// What several schemas declare together.
+    Merge,
+    /// Whether what conforms to an old schema conforms to a new one.
+    Compat,
+}
+
 impl Dup for Command {
     fn dup(&self, _alloc: Global) -> Mem<Command> {
+        Ok(*self)
+    }
+}
+
+impl Dup for Review {
+    fn dup(&self, _alloc: Global) -> Mem<Review> {
         Ok(*self)
     }
 }

@@ -5,9 +5,9 @@ ghost use Rattle.cedar_names.specs.ExtensionFaults.{extensions_fault};
 ghost use Rattle.cedar_names.specs.Extensions.{extension_words};
 ghost use Rattle.cedar_text.specs.Words.{has_word};
 ghost use Rattle.cedar_commands.specs.CommandLine.{ext_words};
-ghost use Rattle.cedar_commands.specs.Asking.{Found, Begin, BeginWithNone, Number, NoNumber, FoundNumber, FoundPlain, FoundOptions, FoundNamed};
+ghost use Rattle.cedar_commands.specs.Asking.{Found, Begin, BeginWithNone, Number, NoNumber, FoundNumber, FoundPlain, FoundReview, FoundOptions, FoundNamed};
 
-use crate::command::Command;
+use crate::command::{Command, Review};
 use cedar_data::{Failure, Mem, NoMemory, Text};
 use cedar_names::Extensions;
 use itoa::Buffer;
@@ -92,6 +92,19 @@ fn plain_command(word: &str) -> Option<Command>
         "check" => Some(Command::Check),
         "to-json" => Some(Command::ToJson),
         "to-cedar" => Some(Command::ToCedar),
+        _ => review_command(word),
+    }
+}
+
+/// The command that is this one word, where it asks for a review.
+fn review_command(word: &str) -> Option<Command>
+    ensures { FoundReview word.now result }
+{
+    match word {
+        "conform" => Some(Command::Review(Review::Conform)),
+        "request" => Some(Command::Review(Review::Request)),
+        "merge" => Some(Command::Review(Review::Merge)),
+        "compat" => Some(Command::Review(Review::Compat)),
         _ => None,
     }
 }

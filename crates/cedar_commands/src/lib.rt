@@ -6,6 +6,6 @@ mod command;
 mod command_line;
 mod status;
 
-pub use command::Command;
+pub use command::{Command, Review};
 pub use command_line::asked;
 pub use status::Status;

@@ -1,8 +1,7 @@
 // SPDX-License-Identifier: Apache-2.0
 use crate::values::{outcome, value_of};
 use cedar_conform::conforms_entities;
-use cedar_data::{Failure, Mem, NoMemory, Out, Text};
-use cedar_envelope::{Envelope, EnvelopeFault, read_envelope};
+use cedar_data::{Failure, Mem, NoMemory, Out};
 use cedar_resolved::ValidatorSchema;
 use cedar_row_schemas::{error_told, schema_of};
 use cedar_row_trees::line_of;
@@ -39,26 +38,4 @@ fn checked(
         Err(Failure::Refused(error)) => error_told(alloc, error),
         Err(Failure::NoMemory) => Err(NoMemory),
     }
-}
-
-/// `conform`: the same of the text and of the value that the object in JSON holds at `schema` and at `entities`.
-pub fn conform(alloc: Global, input: &str) -> Mem<String> {
-    let texts = [Text::new(alloc, "schema")?];
-    let values = [Text::new(alloc, "entities")?];
-    match read_envelope(alloc, input, &texts, &values) {
-        Ok(envelope) => opened(alloc, &envelope),
-        Err(Failure::Refused(fault)) => faulty(alloc, &fault),
-        Err(Failure::NoMemory) => Err(NoMemory),
-    }
-}
-
-fn opened(alloc: Global, envelope: &Envelope) -> Mem<String> {
-    match (envelope.text("schema"), envelope.value("entities")) {
-        (Some(text), Some(value)) => entities_of(alloc, text, value),
-        _ => line_of(alloc, "nothing"),
-    }
-}
-
-fn faulty(alloc: Global, fault: &EnvelopeFault) -> Mem<String> {
-    Ok(format!(in alloc; "error: {fault}\n")?)
 }

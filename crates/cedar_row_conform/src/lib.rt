@@ -8,7 +8,7 @@ mod fitting;
 mod values;
 
 use cedar_data::Mem;
-pub use conforming::{conform, entities};
+pub use conforming::entities;
 pub use fitting::fits;
 use std::alloc::Global;
 pub use values::reference;
@@ -16,7 +16,6 @@ pub use values::reference;
 /// What the verb of this name answers to the words behind it and to an input; none where there is no such verb.
 pub fn answer(alloc: Global, verb: &str, words: &[&str], input: &str) -> Mem<Option<String>> {
     let lines = match verb {
-        "conform" => conform(alloc, input)?,
         "entities" => entities(alloc, input)?,
         "fits" => fits(alloc, words, input)?,
         "reference" => reference(alloc, input)?,

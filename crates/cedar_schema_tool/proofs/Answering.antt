@@ -6,7 +6,7 @@ use Rattle.cedar_answers.specs.Making.{Accepts}
 use Rattle.cedar_commands.specs.Asking.{AskFor}
 use Rattle.cedar_commands.specs.CommandLine.{AreNamed}
 use Rattle.cedar_commands.specs.declared.command.Command.{Command}
-use Rattle.cedar_commands.specs.declared.command.Command.TheVariants.{Resolve, ResolveJson, Check, ToJson, ToCedar, Bench}
+use Rattle.cedar_commands.specs.declared.command.Command.TheVariants.{Resolve, ResolveJson, Check, ToJson, ToCedar, Review, Bench}
 use Rattle.cedar_commands.specs.declared.status.Status.{Status}
 use Rattle.cedar_commands.specs.declared.status.Status.TheVariants.{Done, Refused, Usage, ReadFault, WriteFault, NotUtf8, TooLong, NoMemory}
 use Rattle.cedar_commands.proofs.Asking.{Asks-one, one-known}
@@ -98,6 +98,7 @@ works-read ResolveJson before after text reading r = r
 works-read Check before after text reading r = r
 works-read ToJson before after text reading r = r
 works-read ToCedar before after text reading r = r
+works-read (Review review) before after text reading r = r
 works-read (Bench n) before after text reading r = absurd reading
 
 -- and what it is given is what the source has left
@@ -108,6 +109,7 @@ given-left ResolveJson before text reading g = g
 given-left Check before text reading g = g
 given-left ToJson before text reading g = g
 given-left ToCedar before text reading g = g
+given-left (Review review) before text reading g = g
 given-left (Bench n) before text reading g = absurd reading
 
 -- the commands but `bench` read
@@ -117,6 +119,7 @@ others-read ResolveJson other = tt
 others-read Check other = tt
 others-read ToJson other = tt
 others-read ToCedar other = tt
+others-read (Review review) other = tt
 others-read (Bench n) other = other n refl
 
 module _ (words : List (List ℕ)) (command : Command) (x : Extensions) (found : AskFor words command x) (reading : IsReading command) (before after : Streams) where

@@ -8,7 +8,7 @@ use Rattle.cedar_answers.specs.Making as making
 use Rattle.cedar_answers.specs.Making.{Makes, Tells}
 use Rattle.cedar_commands.specs.CommandLine.{AreNamed, Asks}
 use Rattle.cedar_commands.specs.declared.command.Command.{Command}
-use Rattle.cedar_commands.specs.declared.command.Command.TheVariants.{Resolve, ResolveJson, Check, ToJson, ToCedar, Bench}
+use Rattle.cedar_commands.specs.declared.command.Command.TheVariants.{Resolve, ResolveJson, Check, ToJson, ToCedar, Review, Bench}
 use Rattle.cedar_commands.specs.declared.status.Status.{Status}
 use Rattle.cedar_commands.specs.declared.status.Status.TheVariants.{Done, Refused, Usage, ReadFault, WriteFault, NotUtf8, TooLong, NoMemory}
 use Rattle.cedar_generator.specs.Generated.{generated}
@@ -68,6 +68,7 @@ WorksOn ResolveJson before after text = ReadsText before after text
 WorksOn Check before after text = ReadsText before after text
 WorksOn ToJson before after text = ReadsText before after text
 WorksOn ToCedar before after text = ReadsText before after text
+WorksOn (Review review) before after text = ReadsText before after text
 WorksOn (Bench n) before after text = MadeUp n before after text
 
 -- the command reads
@@ -77,6 +78,7 @@ IsReading ResolveJson = Unit {0}
 IsReading Check = Unit {0}
 IsReading ToJson = Unit {0}
 IsReading ToCedar = Unit {0}
+IsReading (Review review) = Unit {0}
 IsReading (Bench n) = ⊥
 
 -- ---- what the words ask for
@@ -138,6 +140,7 @@ IsGiven ResolveJson before text = (before.left ≡ Some text) × (length text �
 IsGiven Check before text = (before.left ≡ Some text) × (length text ≤ longest_text) × IsUtf8 text
 IsGiven ToJson before text = (before.left ≡ Some text) × (length text ≤ longest_text) × IsUtf8 text
 IsGiven ToCedar before text = (before.left ≡ Some text) × (length text ≤ longest_text) × IsUtf8 text
+IsGiven (Review review) before text = (before.left ≡ Some text) × (length text ≤ longest_text) × IsUtf8 text
 IsGiven (Bench n) before text = text ≡ generated n
 
 -- a text that the command accepts is accepted

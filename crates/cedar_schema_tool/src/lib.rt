@@ -5,9 +5,9 @@
 mod process;
 mod running;
 
+pub use cedar_answers::{write_counts, write_listing};
 pub use cedar_commands::{Command, Status, asked};
 pub use cedar_generator::generate;
-pub use cedar_listing::{write_counts, write_listing};
 pub use cedar_streams::{
     MemSink, MemSource, ReadStop, Reader, Sink, SinkFailed, Source, SourceFailed, StdSink,
     StdSource, SureSource, Writer, read_all, write_all, write_str,

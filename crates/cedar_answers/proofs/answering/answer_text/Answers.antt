@@ -1,5 +1,5 @@
 -- SPDX-License-Identifier: Apache-2.0
-use Rattle.cedar_commands.specs.declared.command.Command.TheVariants.{Resolve, ResolveJson, Check, ToJson, ToCedar, Bench}
+use Rattle.cedar_commands.specs.declared.command.Command.TheVariants.{Resolve, ResolveJson, Check, ToJson, ToCedar, Review, Bench}
 use Rattle.cedar_names.specs.Extensions.{extension_words}
 use Rattle.cedar_answers.proofs.ByMade.{command-answers}
 use Rattle.cedar_answers.specs.Making.{Makes, Tells}
@@ -29,6 +29,11 @@ pub returns-in-ToCedar-clause-answers : goal.returns-in-ToCedar-clause-answers
 unfolding Makes Tells
 returns-in-ToCedar-clause-answers g c =
     command-answers g.K.Sink.written g.K.Sink.faults g.E.Sink.written g.E.Sink.faults c.args.out.now c.answer_to_cedar.new.out c.args.err.now c.answer_to_cedar.new.err c.answer_to_cedar.result c.args.command ToCedar c.args.text.now (extension_words c.args.extensions.now) c.in-ToCedar.is c.answer_to_cedar.ensures.answers
+
+pub returns-in-Review-clause-answers : goal.returns-in-Review-clause-answers
+unfolding Makes Tells
+returns-in-Review-clause-answers g c =
+    command-answers g.K.Sink.written g.K.Sink.faults g.E.Sink.written g.E.Sink.faults c.args.out.now c.answer_review.new.out c.args.err.now c.answer_review.new.err c.answer_review.result c.args.command (Review c.in-Review.review) c.args.text.now (extension_words c.args.extensions.now) c.in-Review.is c.answer_review.ensures.answers
 
 pub returns-in-Bench-clause-answers : goal.returns-in-Bench-clause-answers
 unfolding Makes Tells

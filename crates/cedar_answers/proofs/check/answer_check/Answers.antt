@@ -10,7 +10,7 @@ use Rattle.cedar_world.specs.Denotes.{Denotes}
 use Rattle.cedar_answers.proofs.ByMade.{made-accepts, made-answers}
 use Rattle.cedar_answers.proofs.Schemas.{schema-due, schema-told}
 use Rattle.cedar_answers.specs.Making.{MakesCounts, TellsSchema}
-use Rattle.cedar_answers.specs.Refusal.{refusal_text}
+use Rattle.cedar_reviews.specs.Refusal.{refusal_text}
 use Rattle.cedar_answers.proofs.check.answer_check.Goals as goal
 
 -- what is made of a text: a schema with warnings

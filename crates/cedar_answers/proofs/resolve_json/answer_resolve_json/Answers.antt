@@ -5,7 +5,7 @@ use Rattle.cedar_names.specs.Extensions.{extension_words}
 use Rattle.cedar_answers.proofs.ByMade.{made-accepts, made-answers}
 use Rattle.cedar_answers.proofs.Schemas.{json_schema-due, json_schema-told}
 use Rattle.cedar_answers.specs.Making.{MakesJsonListing, TellsJsonSchema}
-use Rattle.cedar_answers.specs.Refusal.{refusal_text}
+use Rattle.cedar_reviews.specs.Refusal.{refusal_text}
 use Rattle.cedar_answers.proofs.resolve_json.answer_resolve_json.Goals as goal
 
 pub returns-clause-answers : goal.returns-clause-answers

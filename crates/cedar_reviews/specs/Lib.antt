@@ -1,0 +1,9 @@
+-- SPDX-License-Identifier: Apache-2.0
+pub mod Comparing
+pub mod Holding
+pub mod Judging
+pub mod Merging
+pub mod Printing
+pub mod RawNames
+pub mod Refusal
+pub mod Reviewing
