@@ -29,6 +29,8 @@ use Rattle.cedar_schema_errors.specs.declared.schema_error.CedarSchemaError.{Ced
 use Rattle.cedar_schema_errors.specs.declared.schema_error.CedarSchemaError.TheVariants.{Schema}
 use Rattle.cedar_schema_json.specs.JsonSchemas as json
 use Rattle.cedar_written.specs.declared.raw_name.RawName.{RawName}
+use Rattle.cedar_answers.specs.declared.report.Report.{Report}
+use Rattle.cedar_answers.specs.declared.report.Report.TheVariants.{Listing, Counts}
 use Rattle.cedar_reviews.specs.Refusal.{collisions_refusal, refusal_text}
 use Rattle.cedar_reviews.specs.Reviewing.{IsReviewable, MakesReview, TellsReview}
 use Rattle.cedar_reviews.specs.RawNames.{raw_text}
@@ -53,15 +55,15 @@ pub record CanBePrinted (text : List ℕ) (F : Fragment RawName over_raw) : Type
 
 -- ---- what is made of a text: the due text
 
--- the listing of the schema that it denotes, and of its warnings
-abbrev pub MakesListing : List ℕ → List (List ℕ) → List ℕ → Type 0
-MakesListing text extensions due =
-    (schema : ValidatorSchema) × (warnings : List SchemaWarning) × IsSchemaOf text extensions schema warnings × (due ≡ listing schema warnings)
+-- what is reported of a schema and of its warnings
+abbrev pub report_text : Report → ValidatorSchema → List SchemaWarning → List ℕ
+report_text Listing schema warnings = listing schema warnings
+report_text Counts schema warnings = counts schema warnings
 
--- the line of counts of the schema that it denotes, and of its warnings
-abbrev pub MakesCounts : List ℕ → List (List ℕ) → List ℕ → Type 0
-MakesCounts text extensions due =
-    (schema : ValidatorSchema) × (warnings : List SchemaWarning) × IsSchemaOf text extensions schema warnings × (due ≡ counts schema warnings)
+-- the report of the schema that it denotes, and of its warnings
+abbrev pub MakesReport : Report → List ℕ → List (List ℕ) → List ℕ → Type 0
+MakesReport report text extensions due =
+    (schema : ValidatorSchema) × (warnings : List SchemaWarning) × IsSchemaOf text extensions schema warnings × (due ≡ report_text report schema warnings)
 
 -- the listing of the schema that it denotes in JSON
 abbrev pub MakesJsonListing : List ℕ → List (List ℕ) → List ℕ → Type 0
@@ -80,13 +82,13 @@ MakesCedar text due = (F : Fragment RawName over_raw) × CanBePrinted text F × 
 
 -- what a command makes of a text with these extension types
 unfoldable pub Makes : Command → List ℕ → List (List ℕ) → List ℕ → Type 0
-Makes Resolve text extensions due = MakesListing text extensions due
+Makes Resolve text extensions due = MakesReport Listing text extensions due
 Makes ResolveJson text extensions due = MakesJsonListing text extensions due
-Makes Check text extensions due = MakesCounts text extensions due
+Makes Check text extensions due = MakesReport Counts text extensions due
 Makes ToJson text extensions due = MakesJson text extensions due
 Makes ToCedar text extensions due = MakesCedar text due
 Makes (Review review) text extensions due = MakesReview review text extensions due
-Makes (Bench n) text extensions due = MakesCounts text extensions due
+Makes (Bench n) text extensions due = MakesReport Counts text extensions due
 
 -- ---- why a text is refused: what is told
 

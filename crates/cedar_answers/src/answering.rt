@@ -3,8 +3,7 @@ ghost use Rattle.cedar_answers.specs.Answers.{Answers, IsAcceptance};
 ghost use Rattle.cedar_answers.specs.Making.{Accepts, Makes, Tells};
 ghost use Rattle.cedar_names.specs.Extensions.{extension_words};
 
-use crate::check::answer_check;
-use crate::resolve::answer_resolve;
+use crate::report::{Report, answer_report};
 use crate::resolve_json::answer_resolve_json;
 use crate::review::answer_review;
 use crate::to_cedar::answer_to_cedar;
@@ -39,12 +38,12 @@ pub fn answer_text<K: Sink, E: Sink>(
         → IsAcceptance result }
 {
     match command {
-        Command::Resolve => answer_resolve(alloc, text, extensions, out, err),
+        Command::Resolve => answer_report(alloc, Report::Listing, text, extensions, out, err),
         Command::ResolveJson => answer_resolve_json(alloc, text, extensions, out, err),
-        Command::Check => answer_check(alloc, text, extensions, out, err),
+        Command::Check => answer_report(alloc, Report::Counts, text, extensions, out, err),
         Command::ToJson => answer_to_json(alloc, text, extensions, out, err),
         Command::ToCedar => answer_to_cedar(alloc, text, out, err),
         Command::Review(review) => answer_review(alloc, review, text, extensions, out, err),
-        Command::Bench(_) => answer_check(alloc, text, extensions, out, err),
+        Command::Bench(_) => answer_report(alloc, Report::Counts, text, extensions, out, err),
     }
 }

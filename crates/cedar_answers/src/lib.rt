@@ -3,9 +3,8 @@
 #![tactic(auto)]
 
 mod answering;
-mod check;
 mod output;
-mod resolve;
+mod report;
 mod resolve_json;
 mod review;
 mod to_cedar;

@@ -8,7 +8,7 @@ use Rattle.cedar_answers.proofs.answering.answer_text.Goals as goal
 pub returns-in-Resolve-clause-answers : goal.returns-in-Resolve-clause-answers
 unfolding Makes Tells
 returns-in-Resolve-clause-answers g c =
-    command-answers g.K.Sink.written g.K.Sink.faults g.E.Sink.written g.E.Sink.faults c.args.out.now c.answer_resolve.new.out c.args.err.now c.answer_resolve.new.err c.answer_resolve.result c.args.command Resolve c.args.text.now (extension_words c.args.extensions.now) c.in-Resolve.is c.answer_resolve.ensures.answers
+    command-answers g.K.Sink.written g.K.Sink.faults g.E.Sink.written g.E.Sink.faults c.args.out.now c.answer_report.new.out c.args.err.now c.answer_report.new.err c.answer_report.result c.args.command Resolve c.args.text.now (extension_words c.args.extensions.now) c.in-Resolve.is c.answer_report.ensures.answers
 
 pub returns-in-ResolveJson-clause-answers : goal.returns-in-ResolveJson-clause-answers
 unfolding Makes Tells
@@ -18,7 +18,7 @@ returns-in-ResolveJson-clause-answers g c =
 pub returns-in-Check-clause-answers : goal.returns-in-Check-clause-answers
 unfolding Makes Tells
 returns-in-Check-clause-answers g c =
-    command-answers g.K.Sink.written g.K.Sink.faults g.E.Sink.written g.E.Sink.faults c.args.out.now c.answer_check.new.out c.args.err.now c.answer_check.new.err c.answer_check.result c.args.command Check c.args.text.now (extension_words c.args.extensions.now) c.in-Check.is c.answer_check.ensures.answers
+    command-answers g.K.Sink.written g.K.Sink.faults g.E.Sink.written g.E.Sink.faults c.args.out.now c.answer_report-in-Check.new.out c.args.err.now c.answer_report-in-Check.new.err c.answer_report-in-Check.result c.args.command Check c.args.text.now (extension_words c.args.extensions.now) c.in-Check.is c.answer_report-in-Check.ensures.answers
 
 pub returns-in-ToJson-clause-answers : goal.returns-in-ToJson-clause-answers
 unfolding Makes Tells
@@ -38,4 +38,4 @@ returns-in-Review-clause-answers g c =
 pub returns-in-Bench-clause-answers : goal.returns-in-Bench-clause-answers
 unfolding Makes Tells
 returns-in-Bench-clause-answers g c =
-    command-answers g.K.Sink.written g.K.Sink.faults g.E.Sink.written g.E.Sink.faults c.args.out.now c.answer_check-in-Bench.new.out c.args.err.now c.answer_check-in-Bench.new.err c.answer_check-in-Bench.result c.args.command (Bench c.in-Bench.field-0) c.args.text.now (extension_words c.args.extensions.now) c.in-Bench.is c.answer_check-in-Bench.ensures.answers
+    command-answers g.K.Sink.written g.K.Sink.faults g.E.Sink.written g.E.Sink.faults c.args.out.now c.answer_report-in-Bench.new.out c.args.err.now c.answer_report-in-Bench.new.err c.answer_report-in-Bench.result c.args.command (Bench c.in-Bench.field-0) c.args.text.now (extension_words c.args.extensions.now) c.in-Bench.is c.answer_report-in-Bench.ensures.answers

@@ -1,12 +1,11 @@
 // SPDX-License-Identifier: Apache-2.0
-ghost use Rattle.cedar_answers.specs.Answers.{Answers, IsAcceptance};
+ghost use Rattle.cedar_answers.specs.Answers.{Answers, IsAcceptance, Puts};
 ghost use Rattle.cedar_answers.specs.Made.{AnswersMade};
-ghost use Rattle.cedar_answers.specs.Making.{DenotesAny, MakesListing, TellsSchema};
+ghost use Rattle.cedar_answers.specs.Making.{DenotesAny, MakesReport, TellsSchema, report_text};
 ghost use Rattle.cedar_reviews.specs.Refusal.{refusal_text};
-ghost use Rattle.cedar_listing.specs.Listing.{listing};
 ghost use Rattle.cedar_names.specs.Extensions.{extension_words};
 
-use crate::output::{list, refuse};
+use crate::output::{count, list, refuse};
 use cedar_commands::Status;
 use cedar_convert_warnings::SchemaWarning;
 use cedar_data::{Failure, Out};
@@ -17,16 +16,43 @@ use cedar_schema_json::FromCedarSchema;
 use cedar_streams::Sink;
 use std::alloc::Global;
 
-/// Writes the listing of the schema that the text denotes, and of its warnings, or why it denotes
+/// What is written of a schema and of its warnings.
+#[derive(Clone, Copy, Debug)]
+pub(crate) enum Report {
+    /// The listing.
+    Listing,
+    /// The line of counts.
+    Counts,
+}
+
+/// Writes what is reported of a schema and of its warnings.
+fn write_report<K: Sink>(
+    report: Report,
+    schema: &ValidatorSchema,
+    warnings: &[SchemaWarning],
+    out: &mut K,
+) -> Status
+    ensures { Puts (report_text report schema.now warnings.now)
+        (record { bytes = K.written out.old; faults = K.faults out.old })
+        (record { bytes = K.written out.new; faults = K.faults out.new }) result }
+{
+    match report {
+        Report::Listing => list(schema, warnings, out),
+        Report::Counts => count(schema, warnings, out),
+    }
+}
+
+/// Writes what is reported of the schema that the text denotes, and of its warnings, or why it denotes
 /// none.
-pub(crate) fn answer_resolve<K: Sink, E: Sink>(
+pub(crate) fn answer_report<K: Sink, E: Sink>(
     alloc: Global,
+    report: Report,
     text: &str,
     extensions: &Extensions,
     out: &mut K,
     err: &mut E,
 ) -> Status
-    ensures answers { Answers (MakesListing text.now (extension_words extensions.now))
+    ensures answers { Answers (MakesReport report text.now (extension_words extensions.now))
         (TellsSchema text.now (extension_words extensions.now))
         (record { bytes = K.written out.old; faults = K.faults out.old })
         (record { bytes = K.written out.new; faults = K.faults out.new })
@@ -35,26 +61,27 @@ pub(crate) fn answer_resolve<K: Sink, E: Sink>(
     ensures accepts { DenotesAny text.now (extension_words extensions.now) → IsAcceptance result }
 {
     let made = ValidatorSchema::from_cedarschema_str(alloc, text, extensions);
-    let status = answer_listing(alloc, &made, out, err);
+    let status = report_made(alloc, report, &made, out, err);
     drop(made);
     status
 }
 
-/// Writes the listing of a schema and of its warnings, or why there is none.
-fn answer_listing<K: Sink, E: Sink>(
+/// Writes what is reported of a schema and of its warnings, or why there is none.
+fn report_made<K: Sink, E: Sink>(
     alloc: Global,
+    report: Report,
     made: &Out<(ValidatorSchema, Vec<SchemaWarning>), CedarSchemaError>,
     out: &mut K,
     err: &mut E,
 ) -> Status
-    ensures { AnswersMade (λ made. listing made.0 made.1.items) refusal_text made.now
+    ensures { AnswersMade (λ made. report_text report made.0 made.1.items) refusal_text made.now
         (record { bytes = K.written out.old; faults = K.faults out.old })
         (record { bytes = K.written out.new; faults = K.faults out.new })
         (record { bytes = E.written err.old; faults = E.faults err.old })
         (record { bytes = E.written err.new; faults = E.faults err.new }) result }
 {
     match made {
-        Ok((schema, warnings)) => list(schema, warnings.as_slice(), out),
+        Ok((schema, warnings)) => write_report(report, schema, warnings.as_slice(), out),
         Err(Failure::Refused(error)) => refuse(alloc, error, err),
         Err(Failure::NoMemory) => Status::NoMemory,
     }
