@@ -10,7 +10,8 @@ use Rattle.cedar_world.specs.Schemas.{EntityKind, EnumeratedKind, Schema, Schema
 use Rattle.cedar_compat.specs.BreakChecks.{attributes_check, choice_check, descendant_check, each, found_check, kind_check, record_check, required_check, schema_check, tags_check, type_check, type_stays_check}
 use Rattle.cedar_compat.specs.Changes.{choice_removed, descendant_removed}
 use Rattle.cedar_compat.specs.Checks.{of_type}
-use Rattle.cedar_compat.specs.Compatible.{Compatible, KindStays, TagsStay, TypeStays, has_descendant, type_named}
+use Rattle.cedar_compat.specs.Compatible.{Compatible, KindStays, TagsStay, TypeStays}
+use Rattle.cedar_checks.specs.Lookups.{is_above, declared_type}
 use Rattle.cedar_compat.proofs.CheckLaws.{both-pass, each-pass, pass-each, pass-test, pass-type, pass-under, test-pass, then-pass, type-pass, under-pass}
 use Rattle.cedar_compat.proofs.WideningLaws.{pass-required, pass-widened, pass-widening, required-pass, widened-pass, widening-pass}
 
@@ -43,15 +44,15 @@ pass-kind (EnumeratedKind ids) (StandardKind wider tag new) stays = pass-require
 pass-kind (EnumeratedKind ids) (EnumeratedKind choices) stays =
     pass-each (choice_check choices) ids (λ id holds. pass-test (has_word choices id) (choice_removed id) holds) stays
 
-found-pass : (old : SchemaEntity) (o : Option SchemaEntity) → found_check old o ≡ Ok tt → (new : SchemaEntity) × (o ≡ Some new) × KindStays old.kind new.kind × AllPass (λ below. has_descendant new below ≡ true) old.descendants
+found-pass : (old : SchemaEntity) (o : Option SchemaEntity) → found_check old o ≡ Ok tt → (new : SchemaEntity) × (o ≡ Some new) × KindStays old.kind new.kind × AllPass (λ below. is_above new below ≡ true) old.descendants
 found-pass old None is = absurd (cc)
 found-pass old (Some new) is =
     let steps = both-pass (kind_check old.kind new.kind) (λ _. each (descendant_check new) old.descendants) is in
-    (new, refl, kind-pass old.kind new.kind steps.0, each-pass (descendant_check new) old.descendants (λ below passes. test-pass (has_descendant new below) (descendant_removed below) passes) steps.1)
+    (new, refl, kind-pass old.kind new.kind steps.0, each-pass (descendant_check new) old.descendants (λ below passes. test-pass (is_above new below) (descendant_removed below) passes) steps.1)
 
 stays-pass : (R : Schema) (name : FullName) (old : SchemaEntity) → type_stays_check R name old ≡ Ok tt → TypeStays R name old
 unfolding type_stays_check
-stays-pass R name old is = found-pass old (type_named R name) is
+stays-pass R name old is = found-pass old (declared_type R name) is
 
 pass-stays : (R : Schema) (name : FullName) (old : SchemaEntity) → TypeStays R name old → type_stays_check R name old ≡ Ok tt
 unfolding type_stays_check
@@ -59,7 +60,7 @@ pass-stays R name old stays =
     let new = stays.0 in
     ap (found_check old) stays.1
     ∙ then-pass (kind_check old.kind new.kind) (λ _. each (descendant_check new) old.descendants) (pass-kind old.kind new.kind stays.2)
-    (pass-each (descendant_check new) old.descendants (λ below holds. pass-test (has_descendant new below) (descendant_removed below) holds) stays.3)
+    (pass-each (descendant_check new) old.descendants (λ below holds. pass-test (is_above new below) (descendant_removed below) holds) stays.3)
 
 pub schema-pass : (S R : Schema) → schema_check S R ≡ Ok tt → Compatible S R
 unfolding schema_check

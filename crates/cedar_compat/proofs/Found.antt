@@ -1,51 +1,23 @@
 -- SPDX-License-Identifier: Apache-2.0
--- What a schema has under the name of an entity type, and what descends from a type, by names alone.
-use Rattle.std.proofs.Common.{◌≡◌, Bool, true, false, ◌||◌, if◌then◌else◌, List, [], ◌∷◌, Option, Some, None, map, refl, ap, ◌∙◌}
-use Rattle.std.specs.BTreeMap.{is_at}
-use Rattle.std.specs.List.{list_any}
-use Rattle.std.specs.Map.{lookup}
+-- What a schema has under the name of an entity type, by names alone.
+use Rattle.std.proofs.Common.{◌≡◌, Some, None, ap, ◌∙◌}
 use Rattle.std.specs.Option.{option_map}
-use Rattle.cedar_data.specs.Maps.{get}
-use Rattle.cedar_data.specs.Sets.{contains}
-use Rattle.cedar_names.specs.Names.{entity_cmp, entity_words}
-use Rattle.cedar_names.specs.Order.{words_cmp}
+use Rattle.cedar_names.specs.Names.{entity_words}
 use Rattle.cedar_names.specs.declared.name.EntityType.{EntityType}
-use Rattle.cedar_phases.specs.SchemaViews.{entity_in, entity_of, schema_in}
-use Rattle.cedar_resolved.specs.Schemas.{type_at, types}
+use Rattle.cedar_phases.specs.SchemaViews.{entity_of, schema_in}
+use Rattle.cedar_resolved.specs.Schemas.{type_at}
 use Rattle.cedar_resolved.specs.declared.entity_type.ValidatorEntityType.{ValidatorEntityType}
 use Rattle.cedar_resolved.specs.declared.schema.ValidatorSchema.{ValidatorSchema}
 use Rattle.cedar_world.specs.Schemas.{SchemaEntity}
+use Rattle.cedar_checks.proofs.Lookups.{above-seen, declared-seen}
 use Rattle.cedar_compat.specs.BreakChecks.{found_check, type_stays_check}
-use Rattle.cedar_compat.specs.Compatible.{has_descendant, type_named}
-
--- ---- types by name
-
-one_more : (b : Bool) (e : EntityType × ValidatorEntityType) (found : Option ValidatorEntityType) → (if b then Some (entity_of e.1) else option_map entity_of found) ≡ option_map entity_of (if b then Some e.1 else found)
-one_more true e found = refl
-one_more false e found = refl
-
-seen : (name : EntityType) (es : List (EntityType × ValidatorEntityType)) → lookup (is_at (words_cmp (entity_words name))) (map entity_in es) ≡ option_map entity_of (get entity_cmp es name)
-seen name [] = refl
-seen name (e ∷ es) = ap (λ rest. if is_at (entity_cmp name) e.0 then Some (entity_of e.1) else rest) (seen name es) ∙ one_more (is_at (entity_cmp name) e.0) e (get entity_cmp es name)
-
-named-seen : (S : ValidatorSchema) (name : EntityType) → type_named (schema_in S) (entity_words name) ≡ option_map entity_of (type_at S name)
-named-seen S name = seen name (types S)
 
 pub type-found : (S : ValidatorSchema) (name : EntityType) (old : SchemaEntity) (found : ValidatorEntityType) → type_at S name ≡ Some found → type_stays_check (schema_in S) (entity_words name) old ≡ found_check old (Some (entity_of found))
 unfolding type_stays_check
-type-found S name old found is = ap (found_check old) (named-seen S name ∙ ap (option_map entity_of) is)
+type-found S name old found is = ap (found_check old) (declared-seen S name ∙ ap (option_map entity_of) is)
 
 pub type-missing : (S : ValidatorSchema) (name : EntityType) (old : SchemaEntity) → type_at S name ≡ None → type_stays_check (schema_in S) (entity_words name) old ≡ found_check old None
 unfolding type_stays_check
-type-missing S name old is = ap (found_check old) (named-seen S name ∙ ap (option_map entity_of) is)
+type-missing S name old is = ap (found_check old) (declared-seen S name ∙ ap (option_map entity_of) is)
 
--- ---- descendants
-
-among : (name : EntityType) (es : List EntityType) → list_any (is_at (words_cmp (entity_words name))) (map entity_words es) ≡ contains entity_cmp es name
-among name [] = refl
-among name (e ∷ es) = ap (λ rest. is_at (entity_cmp name) e || rest) (among name es)
-
-pub descendant-seen : (ty : ValidatorEntityType) (name : EntityType) → has_descendant (entity_of ty) (entity_words name) ≡ contains entity_cmp ty.descendants name
-descendant-seen ty name = among name ty.descendants
-
-pub ruleset found = (type-found, type-missing, descendant-seen)
+pub ruleset found = (type-found, type-missing, above-seen)

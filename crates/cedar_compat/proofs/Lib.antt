@@ -1,6 +1,5 @@
 -- SPDX-License-Identifier: Apache-2.0
 pub mod Told
-pub mod Layers
 pub mod Rows
 pub mod Needs
 pub mod Each

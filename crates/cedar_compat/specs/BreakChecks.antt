@@ -10,7 +10,7 @@ use Rattle.cedar_unfold.specs.Resolved.{Resolved, ResolvedAttributes, Boolean, L
 use Rattle.cedar_world.specs.Schemas.{EntityKind, EnumeratedKind, Schema, SchemaEntity, StandardKind}
 use Rattle.cedar_compat.specs.Changes.{TypeBreak, type_removed, became_enumerated, choice_removed, attribute_removed, now_required, type_changed, tags_removed, descendant_removed}
 use Rattle.cedar_compat.specs.Checks.{Check, CheckOf, here, of_type, under}
-use Rattle.cedar_compat.specs.Compatible.{has_descendant, type_named}
+use Rattle.cedar_checks.specs.Lookups.{is_above, declared_type}
 use Rattle.cedar_compat.specs.Widening.{attribute_named, needs}
 
 -- each in order
@@ -107,7 +107,7 @@ kind_check (EnumeratedKind ids) (StandardKind wider tag new) = required_check no
 kind_check (EnumeratedKind ids) (EnumeratedKind choices) = each (choice_check choices) ids
 
 abbrev pub descendant_check : SchemaEntity → FullName → Check
-descendant_check new below = if has_descendant new below then Ok tt else here (descendant_removed below)
+descendant_check new below = if is_above new below then Ok tt else here (descendant_removed below)
 
 -- an entity type that has to be there: its kind, and then its descendants
 abbrev pub found_check : SchemaEntity → Option SchemaEntity → Check
@@ -115,7 +115,7 @@ found_check old None = here type_removed
 found_check old (Some new) = and_then (kind_check old.kind new.kind) (λ _. each (descendant_check new) old.descendants)
 
 unfoldable pub type_stays_check : Schema → FullName → SchemaEntity → Check
-type_stays_check R name old = found_check old (type_named R name)
+type_stays_check R name old = found_check old (declared_type R name)
 
 -- the entity types of the old schema S in the new schema R, in the order of their names
 unfoldable pub schema_check : Schema → Schema → CheckOf TypeBreak

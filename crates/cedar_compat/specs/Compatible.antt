@@ -1,24 +1,13 @@
 -- SPDX-License-Identifier: Apache-2.0
 -- Which schemas take nothing away from data of others. Nothing is said of order or of faults.
-use Rattle.std.specs.Prelude.{◌≡◌, ⊤, Bool, true, Option, Some, None}
-use Rattle.std.specs.BTreeMap.{is_at}
-use Rattle.std.specs.List.{list_any}
-use Rattle.std.specs.Map.{lookup}
+use Rattle.std.specs.Prelude.{◌≡◌, ⊤, true, Option, Some, None}
 use Rattle.cedar_data.specs.Firsts.{AllPass}
-use Rattle.cedar_names.specs.Order.{words_cmp}
 use Rattle.cedar_text.specs.Words.{has_word}
 use Rattle.cedar_schema_error.specs.FullNames.{FullName}
 use Rattle.cedar_unfold.specs.Resolved.{Resolved, no_attributes}
 use Rattle.cedar_world.specs.Schemas.{EntityKind, EnumeratedKind, Schema, SchemaEntity, StandardKind}
+use Rattle.cedar_checks.specs.Lookups.{declared_type, is_above}
 use Rattle.cedar_compat.specs.Widening.{HasWidened, NeedsNoMore, Widens}
-
--- the entity type of a name in a schema
-abbrev pub type_named : Schema → FullName → Option SchemaEntity
-type_named S name = lookup (is_at (words_cmp name)) S.entity_types
-
--- whether the entity type has the one of this name among its descendants
-abbrev pub has_descendant : SchemaEntity → FullName → Bool
-has_descendant ty name = list_any (is_at (words_cmp name)) ty.descendants
 
 -- tags of the old type are tags of the new one
 abbrev pub TagsStay : Option Resolved → Option Resolved → Type 0
@@ -35,7 +24,7 @@ KindStays (EnumeratedKind ids) (EnumeratedKind choices) = AllPass (λ id. has_wo
 
 -- the schema has the entity type of this name with a kind that stays, and with all its descendants
 abbrev pub TypeStays : Schema → FullName → SchemaEntity → Type 0
-TypeStays R name old = (new : SchemaEntity) × (type_named R name ≡ Some new) × KindStays old.kind new.kind × AllPass (λ below. has_descendant new below ≡ true) old.descendants
+TypeStays R name old = (new : SchemaEntity) × (declared_type R name ≡ Some new) × KindStays old.kind new.kind × AllPass (λ below. is_above new below ≡ true) old.descendants
 
 -- each entity type of the old schema S stays in the new schema R
 abbrev pub Compatible : Schema → Schema → Type 0

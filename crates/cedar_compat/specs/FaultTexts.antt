@@ -1,18 +1,11 @@
 -- SPDX-License-Identifier: Apache-2.0
 -- What is said of a new schema under which old data may not be valid.
 use Rattle.std.specs.Prelude.{ℕ, List, [], ◌∷◌, ◌++◌, codes}
-use Rattle.std.specs.List.{flat_map}
-use Rattle.cedar_names.specs.Names.{entity_words}
-use Rattle.cedar_names.specs.declared.name.EntityType.{EntityType}
-use Rattle.cedar_text.specs.Joining.{joined}
 use Rattle.cedar_print.specs.Pieces.{quoted_text}
+use Rattle.cedar_conform_fault.specs.FaultTexts.{path_text, type_text}
 use Rattle.cedar_compat.specs.declared.fault.CompatFault.{CompatFault}
 use Rattle.cedar_compat.specs.declared.kind.CompatKind.{CompatKind}
 use Rattle.cedar_compat.specs.declared.kind.CompatKind.TheVariants as kind
-
--- the name of an entity type
-abbrev pub type_text : EntityType → List ℕ
-type_text ty = joined (entity_words ty)
 
 -- the choice of this id isn't there any more
 abbrev pub choice_text : List ℕ → List ℕ
@@ -29,14 +22,10 @@ kind_text kind.TypeChanged = codes "type changed"
 kind_text kind.TagsRemoved = codes "tags removed"
 kind_text (kind.DescendantRemoved ty) = codes "descendant `" ++ type_text ty ++ codes "` removed"
 
--- keys, each after a slash
-abbrev pub further_keys : List (List ℕ) → List ℕ
-further_keys keys = flat_map (λ key. codes "/" ++ key) keys
-
 -- where, with slashes between the keys; nothing where there are none
 abbrev pub place_text : List (List ℕ) → List ℕ
 place_text [] = []
-place_text (key ∷ keys) = codes " at " ++ key ++ further_keys keys
+place_text (key ∷ keys) = codes " at " ++ path_text (key ∷ keys)
 
 -- where and why old data may not be valid
 abbrev pub fault_text : CompatFault → List ℕ

@@ -6,6 +6,7 @@ ghost use Rattle.cedar_compat.specs.Checks.{IsBehind, IsOfType};
 
 use crate::fault::CompatFault;
 use crate::kind::CompatKind;
+use cedar_conform_fault::behind_key;
 use cedar_data::{Dup, Failure, Items, Mem, Out, Text};
 use cedar_names::EntityType;
 use std::alloc::Global;
@@ -15,21 +16,6 @@ use std::alloc::Global;
 pub(crate) struct Broken {
     pub(crate) path: Items<Text>,
     pub(crate) kind: CompatKind,
-}
-
-/// The keys behind one more, which comes first, with what they lead to.
-fn behind_key<K: Drop>(
-    alloc: Global,
-    key: &str,
-    path: Items<Text>,
-    kind: K,
-) -> Mem<(Items<Text>, K)>
-    ensures { IfOk result (λ placed. (placed.0 ≡ key.now ∷ path) × (placed.1 ≡ kind)) }
-{
-    let key = Text::new(alloc, key)?;
-    let mut keys = path.into_vec();
-    keys.insert(0, key)?;
-    Ok((Items::from_vec(keys), kind))
 }
 
 impl Broken {

@@ -1,9 +1,10 @@
 // SPDX-License-Identifier: Apache-2.0
 ghost use Rattle.std.specs.Prelude.{Some};
 ghost use Rattle.std.specs.Fmt.{WritesOnOk};
-ghost use Rattle.cedar_compat.specs.FaultTexts.{fault_text, further_keys, place_text};
+ghost use Rattle.cedar_compat.specs.FaultTexts.{fault_text, place_text};
 
 use crate::kind::CompatKind;
+use cedar_conform_fault::write_path;
 use cedar_data::{Dup, Items, Mem, Text, dup_three};
 use cedar_names::EntityType;
 use std::alloc::Global;
@@ -28,21 +29,11 @@ fn write_place<W: fmt::Write>(path: &[Text], f: &mut fmt::Formatter<W>) -> fmt::
 {
     match path.split_first() {
         None => Ok(()),
-        Some((first, others)) => {
-            write!(f, " at {first}")?;
-            write_further_keys(others, f)
+        Some(_) => {
+            write!(f, " at ")?;
+            write_path(path, f)
         }
     }
-}
-
-/// Writes each key behind `/`.
-fn write_further_keys<W: fmt::Write>(keys: &[Text], f: &mut fmt::Formatter<W>) -> fmt::Result
-    ensures { WritesOnOk W.write_str_gives f.old result (further_keys keys.now) f.new }
-{
-    for key in keys {
-        write!(f, "/{key}")?;
-    }
-    Ok(())
 }
 
 impl fmt::Display for CompatFault {

@@ -23,12 +23,7 @@ use std::alloc::Global;
 fn is_one_of(ids: &[Text], id: &str) -> bool
     ensures { result ≡ has_word ids.now id.now }
 {
-    for choice in ids {
-        if id == choice.as_str() {
-            return true;
-        }
-    }
-    false
+    ids.iter().any(|choice| id == choice.as_str())
 }
 
 /// Whether the id is one of these choices.

@@ -19,7 +19,8 @@ use Rattle.cedar_text.specs.Words.{has_word}
 use Rattle.cedar_schema_error.specs.FullNames.{FullName, Uid}
 use Rattle.cedar_unfold.specs.Resolved.{Resolved, ResolvedAttributes, Record, no_attributes, attribute}
 use Rattle.cedar_world.specs.Schemas.{EntityKind, EnumeratedKind, Schema, SchemaEntity, StandardKind}
-use Rattle.cedar_compat.specs.Compatible.{Compatible, KindStays, TagsStay, TypeStays, has_descendant}
+use Rattle.cedar_compat.specs.Compatible.{Compatible, KindStays, TagsStay, TypeStays}
+use Rattle.cedar_checks.specs.Lookups.{is_above}
 use Rattle.cedar_compat.specs.Widening.{NeedsNoMore}
 use Rattle.cedar_compat_laws.specs.NamesDiffer.{AllNamesDiffer, KindNamesDiffer, TagNamesDiffer}
 use Rattle.cedar_compat_laws.proofs.TypesStay.{attributes-stay, fits-stay}
@@ -100,7 +101,7 @@ module _ (S R : Schema) (compatible : Compatible S R) (distinct : AllNamesDiffer
 
   -- what a type that is known is in the new schema
   abbrev StaysKnown : Uid → SchemaEntity → SchemaEntity → Type 0
-  StaysKnown u old new = Known R u new × KindStays old.kind new.kind × AllPass (λ below. has_descendant new below ≡ true) old.descendants × KindNamesDiffer new.kind
+  StaysKnown u old new = Known R u new × KindStays old.kind new.kind × AllPass (λ below. is_above new below ≡ true) old.descendants × KindNamesDiffer new.kind
 
   known-stays : (u : Uid) (old : SchemaEntity) → Known S u old → (new : SchemaEntity) × StaysKnown u old new
   known-stays u old known =
@@ -114,7 +115,7 @@ module _ (S R : Schema) (compatible : Compatible S R) (distinct : AllNamesDiffer
   parent-stays : (name : FullName) (d : Data) → IsParentOf S name d → IsParentOf R name d
   parent-stays name d is =
       let new = known-stays is.0 is.2.0 is.2.1 in
-      (is.0, is.1, (new.0, new.1.0, name-among (λ below. has_descendant new.0 below ≡ true) is.2.0.descendants name new.1.2 is.2.2))
+      (is.0, is.1, (new.0, new.1.0, name-among (λ below. is_above new.0 below ≡ true) is.2.0.descendants name new.1.2 is.2.2))
 
   parents-stay : (name : FullName) (d : Data) → IsListOf (IsParentOf S name) d → IsListOf (IsParentOf R name) d
   parents-stay name d are = (are.0, are.1, items-map are.0 (parent-stays name) are.2)

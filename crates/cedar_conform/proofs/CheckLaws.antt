@@ -3,25 +3,15 @@
 use Rattle.std.proofs.Common.{◌≡◌, ℕ, ◌+◌, Bool, true, false, if◌then◌else◌, List, decimal, Option, Some, None, refl, ap, ◌∙◌, subst}
 use Rattle.std.specs.declared.result.Result.TheVariants.{Ok, Err}
 use Rattle.cedar_text.specs.Words.{has_word}
-use Rattle.cedar_written.specs.Answers.{and_then}
 use Rattle.serde_json.specs.Data.{Data, null, boolean, number, string, array, object, Items, no_items, item, Members, no_members, member}
 use Rattle.serde_json.specs.Find.{get}
 use Rattle.cedar_json_types.specs.Shapes.{Keyed, KeysWithin}
+use Rattle.cedar_checks.proofs.Steps.{both-pass, then-pass}
 use Rattle.cedar_conform_fault.specs.Flaws.{Flaw}
 use Rattle.cedar_conform.specs.Checks.{Check, each_item, each_member, here, if_there, in_array, in_field, in_object, in_text, key_check, keys_check, needs, under}
 use Rattle.cedar_conform.specs.Entities.{IfThere}
 use Rattle.cedar_conform.specs.Fits.{EachItem}
 use Rattle.cedar_conform.specs.References.{At}
-
--- ---- steps
-
--- where two steps pass, each of them does
-pub both-pass : {A V : Type 0} (part : Check A) (more : A → Check V) (v : V) → and_then part more ≡ Ok v → (a : A) × (part ≡ Ok a) × (more a ≡ Ok v)
-both-pass (Ok a) more v is = (a, refl, is)
-both-pass (Err m) more v is = absurd (cc)
-
-pub then-pass : {A V : Type 0} (part : Check A) (more : A → Check V) (a : A) (v : V) → part ≡ Ok a → more a ≡ Ok v → and_then part more ≡ Ok v
-then-pass part more a v first second = ap (λ p. and_then p more) first ∙ second
 
 pub under-pass : {V : Type 0} (k : List ℕ) (check : Check V) (v : V) → under k check ≡ Ok v → check ≡ Ok v
 under-pass k (Ok w) v is = is

@@ -22,9 +22,11 @@ use Rattle.cedar_conform.specs.Checks.{Check, each_item, each_value, in_array, i
 use Rattle.cedar_conform.specs.Entities.{AreDistinct, AreEntities, AreTags, EachEntity, EachValue, HasData, IfThere, IsEmptyArray, IsEmptyObject, IsEntity, IsNone, IsParentOf, entity_keys}
 use Rattle.cedar_conform.specs.EntityChecks.{above_check, data_check, each_entity, entities_check, entity_of, is_among, items_check, known_reference_check, no_items_check, no_members_check, no_tags_check, nothing_check, parent_check, repeated_check, repeats_check, tags_check}
 use Rattle.cedar_conform.specs.Fits.{IsListOf}
-use Rattle.cedar_conform.specs.References.{At, IsReference, Known, is_above}
+use Rattle.cedar_conform.specs.References.{At, IsReference, Known}
+use Rattle.cedar_checks.specs.Lookups.{is_above}
 use Rattle.cedar_conform.specs.ValueChecks.{known_check, reference_check, value_check}
-use Rattle.cedar_conform.proofs.CheckLaws.{allows-pass, array-pass, at-map, both-pass, if-there-map, items-pass, keys-pass, needs-pass, object-pass, pass-allows, pass-items, pass-keys, pass-needs, pass-test, pass-under, test-pass, then-pass, under-pass}
+use Rattle.cedar_conform.proofs.CheckLaws.{allows-pass, array-pass, at-map, if-there-map, items-pass, keys-pass, needs-pass, object-pass, pass-allows, pass-items, pass-keys, pass-needs, pass-test, pass-under, test-pass, under-pass}
+use Rattle.cedar_checks.proofs.Steps.{both-pass, then-pass}
 use Rattle.cedar_conform.proofs.ReferenceLaws.{known-pass, pass-known, pass-reference, reference-pass}
 use Rattle.cedar_conform.proofs.ValueLaws.{pass-value, value-pass}
 

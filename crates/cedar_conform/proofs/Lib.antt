@@ -5,7 +5,6 @@ pub mod Items
 pub mod Members
 pub mod Rows
 pub mod Escapes
-pub mod Layers
 pub mod CheckLaws
 pub mod ReferenceLaws
 pub mod ValueLaws

@@ -15,9 +15,11 @@ use Rattle.cedar_json_types.specs.Shapes.{KeysWithin}
 use Rattle.cedar_world.specs.Schemas.{Schema, SchemaEntity}
 use Rattle.cedar_schema_error.specs.FullNames.{FullName, Uid}
 use Rattle.cedar_conform.specs.Checks.{Check, keys_check, needs}
-use Rattle.cedar_conform.specs.References.{IsNameOf, IsPlain, IsReference, Known, declared_type, escape, may_have, reference_keys}
+use Rattle.cedar_conform.specs.References.{IsNameOf, IsPlain, IsReference, Known, escape, may_have, reference_keys}
+use Rattle.cedar_checks.specs.Lookups.{declared_type}
 use Rattle.cedar_conform.specs.ValueChecks.{either_check, known_as, known_check, name_check, named, only_entity, plain_check, reference_check, text_check, uid_of}
-use Rattle.cedar_conform.proofs.CheckLaws.{at-map, both-pass, keys-pass, needs-pass, pass-keys, pass-needs, pass-test, pass-under, test-pass, text-pass, then-pass, under-pass}
+use Rattle.cedar_conform.proofs.CheckLaws.{at-map, keys-pass, needs-pass, pass-keys, pass-needs, pass-test, pass-under, test-pass, text-pass, under-pass}
+use Rattle.cedar_checks.proofs.Steps.{both-pass, then-pass}
 
 -- ---- names and texts
 

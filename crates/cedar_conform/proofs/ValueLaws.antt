@@ -13,7 +13,8 @@ use Rattle.cedar_unfold.specs.Resolved.{Resolved, ResolvedAttributes, Boolean, L
 use Rattle.cedar_conform.specs.Checks.{Check, each_item, each_member, in_array}
 use Rattle.cedar_conform.specs.Fits.{Fits, HasAll, HasOnly, IsThere, KeysNamed, RefersTo, has_attribute}
 use Rattle.cedar_conform.specs.ValueChecks.{attribute_check, attributes_check, boolean_check, entity_check, in_range, known_check, long_check, name_known_check, names_check, reference_check, same_type, string_check, value_check}
-use Rattle.cedar_conform.proofs.CheckLaws.{array-pass, both-pass, items-pass, object-pass, pass-items, pass-test, pass-under, test-pass, text-pass, then-pass, under-pass}
+use Rattle.cedar_conform.proofs.CheckLaws.{array-pass, items-pass, object-pass, pass-items, pass-test, pass-under, test-pass, text-pass, under-pass}
+use Rattle.cedar_checks.proofs.Steps.{both-pass, then-pass}
 use Rattle.cedar_conform.proofs.ReferenceLaws.{known-pass, pass-known, pass-reference, reference-pass}
 
 -- ---- plain values

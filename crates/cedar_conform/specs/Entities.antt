@@ -8,7 +8,8 @@ use Rattle.cedar_schema_error.specs.FullNames.{FullName, Uid}
 use Rattle.cedar_unfold.specs.Resolved.{Resolved, Record}
 use Rattle.cedar_world.specs.Schemas.{EntityKind, EnumeratedKind, Schema, SchemaEntity, StandardKind}
 use Rattle.cedar_conform.specs.Fits.{IsListOf, Fits}
-use Rattle.cedar_conform.specs.References.{At, IsReference, Known, is_above}
+use Rattle.cedar_conform.specs.References.{At, IsReference, Known}
+use Rattle.cedar_checks.specs.Lookups.{is_above}
 
 -- the keys of an entity
 abbrev pub entity_keys : List (List ℕ)

@@ -12,7 +12,7 @@ use Rattle.cedar_written.specs.Answers.{and_then}
 use Rattle.cedar_conform_fault.specs.Flaws.{tags_not_allowed, no_ancestor, enumerated_has_data, repeated}
 use Rattle.cedar_conform.specs.Checks.{Check, here, under, in_object, in_array, keys_check, needs, allows, each_item, each_value}
 use Rattle.cedar_conform.specs.Entities.{entity_keys}
-use Rattle.cedar_conform.specs.References.{is_above}
+use Rattle.cedar_checks.specs.Lookups.{is_above}
 use Rattle.cedar_conform.specs.ValueChecks.{known_check, reference_check, value_check}
 
 -- ---- entities of types that list them

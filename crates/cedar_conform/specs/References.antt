@@ -1,18 +1,15 @@
 -- SPDX-License-Identifier: Apache-2.0
 -- References to entities in JSON, and what a schema knows of the entities that they name.
-use Rattle.std.specs.Prelude.{◌≡◌, ◌⊎◌, ℕ, Bool, true, List, [], ◌∷◌, codes, Option, Some, None}
-use Rattle.std.specs.BTreeMap.{is_at}
-use Rattle.std.specs.List.{list_any}
-use Rattle.std.specs.Map.{lookup}
+use Rattle.std.specs.Prelude.{◌≡◌, ◌⊎◌, ℕ, Bool, true, List, [], ◌∷◌, codes, Some, None}
 use Rattle.cedar_text.specs.Faults.{no_unreserved_id}
 use Rattle.cedar_text.specs.NormalNames.{name_fault, parts}
 use Rattle.cedar_text.specs.Words.{has_word}
-use Rattle.cedar_names.specs.Order.{words_cmp}
 use Rattle.serde_json.specs.Data.{Data, object, string, no_members, member}
 use Rattle.serde_json.specs.Find.{get}
 use Rattle.cedar_json_types.specs.Shapes.{Keyed}
 use Rattle.cedar_schema_error.specs.FullNames.{FullName, Uid}
 use Rattle.cedar_world.specs.Schemas.{EntityKind, EnumeratedKind, Schema, SchemaEntity, StandardKind}
+use Rattle.cedar_checks.specs.Lookups.{declared_type}
 
 -- ---- references
 
@@ -42,10 +39,6 @@ IsReference d u = IsPlain d u ⊎ ((e : Data) × (d ≡ escape e) × IsPlain e u
 
 -- ---- what a schema knows
 
--- the entity type of a name in a schema
-abbrev pub declared_type : Schema → FullName → Option SchemaEntity
-declared_type S name = lookup (is_at (words_cmp name)) S.entity_types
-
 -- whether an entity type of this kind may have an entity of the id
 abbrev pub may_have : EntityKind → List ℕ → Bool
 may_have (StandardKind fields is_open tags) id = true
@@ -54,7 +47,3 @@ may_have (EnumeratedKind ids) id = has_word ids id
 -- this is the entity's type in the schema, and where it lists its entities, it lists this one
 abbrev pub Known : Schema → Uid → SchemaEntity → Type 0
 Known S u ty = (declared_type S u.ty ≡ Some ty) × (may_have ty.kind u.id ≡ true)
-
--- whether the entity type has the one of this name among its descendants
-abbrev pub is_above : SchemaEntity → FullName → Bool
-is_above above name = list_any (is_at (words_cmp name)) above.descendants

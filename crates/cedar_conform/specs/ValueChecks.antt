@@ -17,7 +17,8 @@ use Rattle.cedar_written.specs.Answers.{and_then}
 use Rattle.cedar_conform_fault.specs.Flaws.{wrong_kind, invalid_name, out_of_range, unknown_type, wrong_type, no_choice, unknown_attribute, missing_attribute, extension_value}
 use Rattle.cedar_conform.specs.Checks.{Check, here, under, in_object, in_array, in_text, keys_check, needs, each_item, each_member}
 use Rattle.cedar_conform.specs.Fits.{has_attribute}
-use Rattle.cedar_conform.specs.References.{declared_type, may_have, reference_keys}
+use Rattle.cedar_conform.specs.References.{may_have, reference_keys}
+use Rattle.cedar_checks.specs.Lookups.{declared_type}
 
 -- ---- references
 

@@ -143,12 +143,7 @@ pub fn read_ref(alloc: Global, v: &Value) -> Out<EntityUID, Fault>
 fn is_one_of(ids: &[Text], id: &str) -> bool
     ensures { result ≡ has_word ids.now id.now }
 {
-    for choice in ids {
-        if id == choice.as_str() {
-            return true;
-        }
-    }
-    false
+    ids.iter().any(|choice| id == choice.as_str())
 }
 
 /// Whether the type may have an entity of the id.

@@ -18,8 +18,8 @@ pub struct Fault {
     pub kind: FaultKind,
 }
 
-/// The keys behind one more, which comes first, with what they lead to.
-fn behind_key<K: Drop>(
+/// The keys behind one more, which comes first, with what they lead to. It fails only for want of memory.
+pub fn behind_key<K: Drop>(
     alloc: Global,
     key: &str,
     path: Items<Text>,
@@ -46,7 +46,7 @@ impl Fault {
 }
 
 /// Writes the keys with `/` between them.
-fn write_path<W: fmt::Write>(path: &[Text], f: &mut fmt::Formatter<W>) -> fmt::Result
+pub fn write_path<W: fmt::Write>(path: &[Text], f: &mut fmt::Formatter<W>) -> fmt::Result
     ensures { WritesOnOk W.write_str_gives f.old result (path_text path.now) f.new }
 {
     match path.split_first() {

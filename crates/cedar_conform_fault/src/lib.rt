@@ -6,5 +6,5 @@ mod fault;
 mod kind;
 
 pub use cedar_json_fault::JsonKind;
-pub use fault::Fault;
+pub use fault::{Fault, behind_key, write_path};
 pub use kind::FaultKind;

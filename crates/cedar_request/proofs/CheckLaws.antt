@@ -1,22 +1,13 @@
 -- SPDX-License-Identifier: Apache-2.0
 -- When the steps of a check of requests pass.
-use Rattle.std.proofs.Common.{◌≡◌, ℕ, Bool, true, false, if◌then◌else◌, List, decimal, Option, Some, None, refl, ap, ◌∙◌}
+use Rattle.std.proofs.Common.{◌≡◌, ℕ, Bool, true, false, if◌then◌else◌, List, decimal, Option, Some, None, refl, ap}
 use Rattle.std.specs.declared.result.Result.TheVariants.{Ok, Err}
-use Rattle.cedar_written.specs.Answers.{and_then}
 use Rattle.cedar_schema_error.specs.FullNames.{FullName, Uid}
 use Rattle.cedar_world.specs.Schemas.{SchemaAction}
 use Rattle.cedar_conform.specs.Checks.{Check, under}
 use Rattle.cedar_conform.proofs.CheckLaws.{pass-under, under-pass}
 use Rattle.cedar_request.specs.RequestChecks.{RequestCheck, action_as, at_place, has_type, of_value, type_check}
 use Rattle.cedar_request.specs.RequestFlaws.{RequestFlaw}
-
--- where two steps pass, each of them does
-pub both-pass : {A V : Type 0} (part : RequestCheck A) (more : A → RequestCheck V) (v : V) → and_then part more ≡ Ok v → (a : A) × (part ≡ Ok a) × (more a ≡ Ok v)
-both-pass (Ok a) more v is = (a, refl, is)
-both-pass (Err m) more v is = absurd (cc)
-
-pub then-pass : {A V : Type 0} (part : RequestCheck A) (more : A → RequestCheck V) (a : A) (v : V) → part ≡ Ok a → more a ≡ Ok v → and_then part more ≡ Ok v
-then-pass part more a v first second = ap (λ p. and_then p more) first ∙ second
 
 pub value-pass : {V : Type 0} (check : Check V) (v : V) → of_value check ≡ Ok v → check ≡ Ok v
 value-pass (Ok w) v is = cc

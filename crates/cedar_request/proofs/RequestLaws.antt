@@ -11,11 +11,11 @@ use Rattle.cedar_conform.specs.Checks.{Check, in_array, keys_check, needs, under
 use Rattle.cedar_conform.specs.Fits.{Fits}
 use Rattle.cedar_conform.specs.References.{At, IsReference, Known}
 use Rattle.cedar_conform.specs.ValueChecks.{known_check, reference_check, value_check}
-use Rattle.cedar_conform.proofs.CheckLaws as values
 use Rattle.cedar_conform.proofs.CheckLaws.{array-pass, at-map, keys-pass, needs-pass, pass-keys, pass-needs, pass-under, under-pass}
 use Rattle.cedar_conform.proofs.ReferenceLaws.{known-pass, pass-known, pass-reference, reference-pass}
 use Rattle.cedar_conform.proofs.ValueLaws as types
-use Rattle.cedar_request.proofs.CheckLaws.{action-pass, both-pass, pass-action, pass-place, pass-type, pass-value, place-pass, then-pass, type-pass, value-pass}
+use Rattle.cedar_request.proofs.CheckLaws.{action-pass, pass-action, pass-place, pass-type, pass-value, place-pass, type-pass, value-pass}
+use Rattle.cedar_checks.proofs.Steps.{both-pass, then-pass}
 use Rattle.cedar_request.proofs.Numbering.{numbered}
 use Rattle.cedar_request.proofs.Once.{IsOrdered}
 use Rattle.cedar_request.specs.Numbers.{number}
@@ -44,11 +44,11 @@ at-reference k d u is = pass-needs k reference_check d u (at-map k d (λ e. pass
 parts-pass : (d : Data) (parts : Parts) → parts_check d ≡ Ok parts → Names d parts
 unfolding parts_check
 parts-pass d parts is =
-    let keys = values.both-pass (keys_check request_keys d) _ parts is in
-    let principal = values.both-pass (needs (codes "principal") reference_check d) _ parts keys.2 in
-    let action = values.both-pass (needs (codes "action") reference_check d) _ parts principal.2 in
-    let resource = values.both-pass (needs (codes "resource") reference_check d) _ parts action.2 in
-    let context = values.both-pass (needs (codes "context") Ok d) _ parts resource.2 in
+    let keys = both-pass (keys_check request_keys d) _ parts is in
+    let principal = both-pass (needs (codes "principal") reference_check d) _ parts keys.2 in
+    let action = both-pass (needs (codes "action") reference_check d) _ parts principal.2 in
+    let resource = both-pass (needs (codes "resource") reference_check d) _ parts action.2 in
+    let context = both-pass (needs (codes "context") Ok d) _ parts resource.2 in
     let made : Parts = record { principal = principal.0; action = action.0; resource = resource.0; context = context.0 } in
     subst (Names d) (same-ok made parts context.2) (record {
       keyed = keys-pass request_keys d keys.1;
@@ -61,24 +61,24 @@ parts-pass d parts is =
 pass-parts : (d : Data) (parts : Parts) → Names d parts → parts_check d ≡ Ok parts
 unfolding parts_check
 pass-parts d parts names =
-    values.then-pass (keys_check request_keys d) _ tt parts (pass-keys request_keys d names.keyed)
-    (values.then-pass (needs (codes "principal") reference_check d) _ parts.principal parts (at-reference (codes "principal") d parts.principal names.principal)
-    (values.then-pass (needs (codes "action") reference_check d) _ parts.action parts (at-reference (codes "action") d parts.action names.action)
-    (values.then-pass (needs (codes "resource") reference_check d) _ parts.resource parts (at-reference (codes "resource") d parts.resource names.resource)
-    (values.then-pass (needs (codes "context") Ok d) _ parts.context parts (pass-needs (codes "context") Ok d parts.context (at-map (codes "context") d (λ e is. ap Ok is) names.context)) refl))))
+    then-pass (keys_check request_keys d) _ tt parts (pass-keys request_keys d names.keyed)
+    (then-pass (needs (codes "principal") reference_check d) _ parts.principal parts (at-reference (codes "principal") d parts.principal names.principal)
+    (then-pass (needs (codes "action") reference_check d) _ parts.action parts (at-reference (codes "action") d parts.action names.action)
+    (then-pass (needs (codes "resource") reference_check d) _ parts.resource parts (at-reference (codes "resource") d parts.resource names.resource)
+    (then-pass (needs (codes "context") Ok d) _ parts.context parts (pass-needs (codes "context") Ok d parts.context (at-map (codes "context") d (λ e is. ap Ok is) names.context)) refl))))
 
 -- ---- its environment
 
 module _ (S : Schema) (place : ℕ) where
   entity-pass : (k : List ℕ) (u : Uid) → entity_known S place k u ≡ Ok tt → (ty : SchemaEntity) × Known S u ty
   entity-pass k u is =
-      let known = values.both-pass (known_check S u) (λ ty. Ok tt) tt (under-pass k _ tt (place-pass place (under k (and_then (known_check S u) (λ ty. Ok tt))) tt is)) in
+      let known = both-pass (known_check S u) (λ ty. Ok tt) tt (under-pass k _ tt (place-pass place (under k (and_then (known_check S u) (λ ty. Ok tt))) tt is)) in
       (known.0, known-pass S u known.0 known.1)
 
   pass-entity : (k : List ℕ) (u : Uid) (ty : SchemaEntity) → Known S u ty → entity_known S place k u ≡ Ok tt
   pass-entity k u ty known =
       pass-place place (under k (and_then (known_check S u) (λ ty. Ok tt))) tt
-      (pass-under k (and_then (known_check S u) (λ ty. Ok tt)) tt (values.then-pass (known_check S u) (λ ty. Ok tt) ty tt (pass-known S u ty known) refl))
+      (pass-under k (and_then (known_check S u) (λ ty. Ok tt)) tt (then-pass (known_check S u) (λ ty. Ok tt) ty tt (pass-known S u ty known) refl))
 
   -- the action is for the principal and the resource, the schema knows both, and the context fits
   pub record Enters (parts : Parts) : Type 0 where

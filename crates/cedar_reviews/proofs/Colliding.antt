@@ -1,6 +1,6 @@
 -- SPDX-License-Identifier: Apache-2.0
 -- What is told of a fragment whose names collide.
-use Rattle.std.proofs.Common.{◌≡◌, ℕ, List, Result, Ok, Err, String, Global}
+use Rattle.std.proofs.Common.{◌≡◌, Result, Ok, Err, String, Global}
 use Rattle.std.specs.String.{string_bytes}
 use Rattle.cedar_data.specs.Answers.{IfRefused}
 use Rattle.cedar_data.specs.declared.memory.Failure.{Failure}

@@ -1,6 +1,6 @@
 -- SPDX-License-Identifier: Apache-2.0
 -- Loops over the items of a list of texts.
-use Rattle.std.proofs.Common.{◌≡◌, ℕ, ◌+◌, List, [], ◌∷◌, ◌++◌, Option, Some, None, Result, Ok, Err, inl, inr, length, get_or, drop, ◌<◌, refl, sym, ap, ◌∙◌, subst, append_assoc, append-nil, add-one}
+use Rattle.std.proofs.Common.{◌≡◌, ℕ, ◌+◌, List, [], ◌∷◌, ◌++◌, Some, None, Result, Ok, Err, inl, inr, length, get_or, drop, ◌<◌, refl, sym, ap, ◌∙◌, subst, append_assoc, append-nil, add-one}
 use Rattle.std.proofs.Math.Seq.{drop-cons}
 use Rattle.cedar_data.specs.Answers.{IfRefused}
 use Rattle.cedar_data.specs.declared.memory.Failure.{Failure}

@@ -4,7 +4,7 @@ use Rattle.serde_json.specs.View.{view}
 use Rattle.cedar_phases.specs.SchemaViews.{schema_in}
 use Rattle.cedar_conform.specs.Checks.{passed}
 use Rattle.cedar_conform.specs.ValueChecks.{value_check}
-use Rattle.cedar_conform.proofs.Layers.{resolved-rows}
+use Rattle.cedar_checks.proofs.Layers.{resolved-rows}
 use Rattle.cedar_conform.proofs.Rows.{PassesRows-refused}
 use Rattle.cedar_conform.proofs.Told.{Tells-at}
 use Rattle.cedar_conform.proofs.values.+values.Goals as goal
