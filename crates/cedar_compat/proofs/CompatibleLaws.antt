@@ -6,7 +6,7 @@ use Rattle.cedar_data.specs.Firsts.{AllPass}
 use Rattle.cedar_text.specs.Words.{has_word}
 use Rattle.cedar_schema_error.specs.FullNames.{FullName}
 use Rattle.cedar_unfold.specs.Resolved.{Resolved, no_attributes}
-use Rattle.cedar_world.specs.Schemas.{EntityKind, EnumeratedKind, Schema, SchemaEntity, StandardKind}
+use Rattle.cedar_checks.specs.of_world.Schemas.{EntityKind, EnumeratedKind, Schema, SchemaEntity, StandardKind}
 use Rattle.cedar_compat.specs.BreakChecks.{attributes_check, choice_check, descendant_check, each, found_check, kind_check, record_check, required_check, schema_check, tags_check, type_check, type_stays_check}
 use Rattle.cedar_compat.specs.Changes.{choice_removed, descendant_removed}
 use Rattle.cedar_compat.specs.Checks.{of_type}

@@ -4,11 +4,11 @@ use Rattle.std.proofs.Common.{◌≡◌, Some, None, ap, ◌∙◌}
 use Rattle.std.specs.Option.{option_map}
 use Rattle.cedar_names.specs.Names.{entity_words}
 use Rattle.cedar_names.specs.declared.name.EntityType.{EntityType}
-use Rattle.cedar_phases.specs.SchemaViews.{entity_of, schema_in}
+use Rattle.cedar_checks.specs.of_phases.SchemaViews.{entity_of, schema_in}
 use Rattle.cedar_resolved.specs.Schemas.{type_at}
 use Rattle.cedar_resolved.specs.declared.entity_type.ValidatorEntityType.{ValidatorEntityType}
 use Rattle.cedar_resolved.specs.declared.schema.ValidatorSchema.{ValidatorSchema}
-use Rattle.cedar_world.specs.Schemas.{SchemaEntity}
+use Rattle.cedar_checks.specs.of_world.Schemas.{SchemaEntity}
 use Rattle.cedar_checks.proofs.Lookups.{above-seen, declared-seen}
 use Rattle.cedar_compat.specs.BreakChecks.{found_check, type_stays_check}
 

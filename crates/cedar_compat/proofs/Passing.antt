@@ -6,7 +6,7 @@ use Rattle.std.specs.declared.result.Result.{Result}
 use Rattle.cedar_data.specs.Answers.{IfRefused}
 use Rattle.cedar_data.specs.declared.memory.Failure.{Failure}
 use Rattle.cedar_data.specs.declared.memory.Failure.TheVariants.{Refused, NoMemory}
-use Rattle.cedar_world.specs.Schemas.{Schema}
+use Rattle.cedar_checks.specs.of_world.Schemas.{Schema}
 use Rattle.cedar_compat.specs.BreakChecks.{schema_check}
 use Rattle.cedar_compat.specs.Changes.{TypeBreak, type_break}
 use Rattle.cedar_compat.specs.Checks.{CheckOf, Tells}

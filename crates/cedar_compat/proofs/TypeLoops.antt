@@ -7,12 +7,12 @@ use Rattle.cedar_data.specs.Answers.{and_then}
 use Rattle.cedar_data.specs.declared.memory.Failure.{Failure}
 use Rattle.cedar_names.specs.Names.{entity_words}
 use Rattle.cedar_names.specs.declared.name.EntityType.{EntityType}
-use Rattle.cedar_phases.specs.SchemaViews.{entity_in, entity_of, schema_in}
+use Rattle.cedar_checks.specs.of_phases.SchemaViews.{entity_in, entity_of, schema_in}
 use Rattle.cedar_resolved.specs.Schemas.{types}
 use Rattle.cedar_resolved.specs.declared.entity_type.ValidatorEntityType.{ValidatorEntityType}
 use Rattle.cedar_resolved.specs.declared.schema.ValidatorSchema.{ValidatorSchema}
 use Rattle.cedar_schema_error.specs.FullNames.{FullName}
-use Rattle.cedar_world.specs.Schemas.{Schema, SchemaEntity}
+use Rattle.cedar_checks.specs.of_world.Schemas.{Schema, SchemaEntity}
 use Rattle.cedar_compat.specs.BreakChecks.{each, schema_check, type_stays_check}
 use Rattle.cedar_compat.specs.Changes.{TypeBreak, type_break}
 use Rattle.cedar_compat.specs.Checks.{CheckOf, Tells, of_type}

@@ -7,7 +7,7 @@ use Rattle.cedar_names.specs.Order.{words_eq}
 use Rattle.cedar_text.specs.Words.{has_word}
 use Rattle.cedar_schema_error.specs.FullNames.{FullName}
 use Rattle.cedar_unfold.specs.Resolved.{Resolved, ResolvedAttributes, Boolean, Long, String, Extension, Set, Record, Entity, no_attributes, attribute}
-use Rattle.cedar_world.specs.Schemas.{EntityKind, EnumeratedKind, Schema, SchemaEntity, StandardKind}
+use Rattle.cedar_checks.specs.of_world.Schemas.{EntityKind, EnumeratedKind, Schema, SchemaEntity, StandardKind}
 use Rattle.cedar_compat.specs.Changes.{TypeBreak, type_removed, became_enumerated, choice_removed, attribute_removed, now_required, type_changed, tags_removed, descendant_removed}
 use Rattle.cedar_compat.specs.Checks.{Check, CheckOf, here, of_type, under}
 use Rattle.cedar_checks.specs.Lookups.{is_above, declared_type}

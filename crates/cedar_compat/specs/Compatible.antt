@@ -5,7 +5,7 @@ use Rattle.cedar_data.specs.Firsts.{AllPass}
 use Rattle.cedar_text.specs.Words.{has_word}
 use Rattle.cedar_schema_error.specs.FullNames.{FullName}
 use Rattle.cedar_unfold.specs.Resolved.{Resolved, no_attributes}
-use Rattle.cedar_world.specs.Schemas.{EntityKind, EnumeratedKind, Schema, SchemaEntity, StandardKind}
+use Rattle.cedar_checks.specs.of_world.Schemas.{EntityKind, EnumeratedKind, Schema, SchemaEntity, StandardKind}
 use Rattle.cedar_checks.specs.Lookups.{declared_type, is_above}
 use Rattle.cedar_compat.specs.Widening.{HasWidened, NeedsNoMore, Widens}
 

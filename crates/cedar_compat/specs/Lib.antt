@@ -1,4 +1,7 @@
 -- SPDX-License-Identifier: Apache-2.0
+pub mod of_world
+pub mod of_phases
+pub mod of_checks
 pub mod BreakChecks
 pub mod Changes
 pub mod Checks

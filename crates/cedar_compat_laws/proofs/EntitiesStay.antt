@@ -20,7 +20,7 @@ use Rattle.cedar_schema_error.specs.FullNames.{FullName, Uid}
 use Rattle.cedar_unfold.specs.Resolved.{Resolved, ResolvedAttributes, Record, no_attributes, attribute}
 use Rattle.cedar_world.specs.Schemas.{EntityKind, EnumeratedKind, Schema, SchemaEntity, StandardKind}
 use Rattle.cedar_compat.specs.Compatible.{Compatible, KindStays, TagsStay, TypeStays}
-use Rattle.cedar_checks.specs.Lookups.{is_above}
+use Rattle.cedar_compat.specs.of_checks.Lookups.{is_above}
 use Rattle.cedar_compat.specs.Widening.{NeedsNoMore}
 use Rattle.cedar_compat_laws.specs.NamesDiffer.{AllNamesDiffer, KindNamesDiffer, TagNamesDiffer}
 use Rattle.cedar_compat_laws.proofs.TypesStay.{attributes-stay, fits-stay}

@@ -15,7 +15,7 @@ use Rattle.cedar_names.specs.Order.{word_cmp, words_cmp}
 use Rattle.serde_json.specs.Data.{Data, array, object, Items, no_items, item, Members, no_members, member}
 use Rattle.serde_json.specs.Find.{get}
 use Rattle.cedar_json_types.specs.Shapes.{Keyed}
-use Rattle.cedar_world.specs.Schemas.{EntityKind, EnumeratedKind, Schema, SchemaEntity, StandardKind}
+use Rattle.cedar_checks.specs.of_world.Schemas.{EntityKind, EnumeratedKind, Schema, SchemaEntity, StandardKind}
 use Rattle.cedar_schema_error.specs.FullNames.{FullName, Uid, uid_cmp}
 use Rattle.cedar_unfold.specs.Resolved.{Resolved, Record}
 use Rattle.cedar_conform.specs.Checks.{Check, each_item, each_value, in_array, in_object, keys_check, needs, under}

@@ -4,7 +4,7 @@ use Rattle.std.proofs.Common.{◌≡◌, ℕ, ◌+◌, List, [], ◌∷◌, ◌+
 use Rattle.std.specs.declared.result.Result.TheVariants.{Ok, Err}
 use Rattle.cedar_data.specs.declared.memory.Failure.{Failure}
 use Rattle.cedar_names.specs.declared.entity_uid.EntityUID.{EntityUID}
-use Rattle.cedar_world.specs.Schemas.{Schema}
+use Rattle.cedar_checks.specs.of_world.Schemas.{Schema}
 use Rattle.cedar_schema_error.specs.FullNames.{Uid, uid_in}
 use Rattle.cedar_written.specs.Answers.{and_then}
 use Rattle.serde_json.specs.View.{view, items_view}

@@ -1,4 +1,5 @@
 -- SPDX-License-Identifier: Apache-2.0
+pub mod of_checks
 pub mod Told
 pub mod ByKind
 pub mod Items

@@ -8,7 +8,7 @@ use Rattle.cedar_data.specs.declared.memory.Failure.{Failure}
 use Rattle.cedar_data.specs.declared.memory.Failure.TheVariants.{Refused, NoMemory}
 use Rattle.serde_json.specs.Data.{Data}
 use Rattle.cedar_names.specs.declared.entity_uid.EntityUID.{EntityUID}
-use Rattle.cedar_world.specs.Schemas.{Schema}
+use Rattle.cedar_checks.specs.of_world.Schemas.{Schema}
 use Rattle.cedar_schema_error.specs.FullNames.{Uid, uid_in}
 use Rattle.cedar_unfold.specs.Resolved.{Resolved}
 use Rattle.cedar_conform_fault.specs.Flaws.{misfit}

@@ -7,7 +7,7 @@ use Rattle.cedar_data.specs.Answers.{IfRefused}
 use Rattle.cedar_data.specs.declared.memory.Failure.{Failure}
 use Rattle.cedar_data.specs.declared.memory.Failure.TheVariants.{Refused, NoMemory}
 use Rattle.serde_json.specs.Data.{Data}
-use Rattle.cedar_world.specs.Schemas.{Schema}
+use Rattle.cedar_checks.specs.of_world.Schemas.{Schema}
 use Rattle.cedar_conform_fault.specs.declared.fault.Fault.{Fault}
 use Rattle.cedar_conform.specs.Checks.{Tells, passed}
 use Rattle.cedar_conform.specs.Entities.{AreEntities}

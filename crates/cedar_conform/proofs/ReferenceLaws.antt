@@ -12,7 +12,7 @@ use Rattle.cedar_text.specs.NormalNames.{name_fault, parts}
 use Rattle.cedar_text.specs.declared.fault.NameFault.{NameFault}
 use Rattle.serde_json.specs.Data.{Data, null, boolean, number, string, array, object, Members, no_members, member}
 use Rattle.cedar_json_types.specs.Shapes.{KeysWithin}
-use Rattle.cedar_world.specs.Schemas.{Schema, SchemaEntity}
+use Rattle.cedar_checks.specs.of_world.Schemas.{Schema, SchemaEntity}
 use Rattle.cedar_schema_error.specs.FullNames.{FullName, Uid}
 use Rattle.cedar_conform.specs.Checks.{Check, keys_check, needs}
 use Rattle.cedar_conform.specs.References.{IsNameOf, IsPlain, IsReference, Known, escape, may_have, reference_keys}

@@ -9,7 +9,7 @@ use Rattle.cedar_written.specs.Answers.{and_then}
 use Rattle.serde_json.specs.Data.{Data}
 use Rattle.serde_json.specs.Find.{get}
 use Rattle.cedar_types.specs.declared.ty.AttributeType.{AttributeType}
-use Rattle.cedar_world.specs.Schemas.{Schema}
+use Rattle.cedar_checks.specs.of_world.Schemas.{Schema}
 use Rattle.cedar_unfold.specs.Resolved.{Resolved}
 use Rattle.cedar_unfold.specs.ResolvedViews.{resolved, resolved_map}
 use Rattle.cedar_unfold.proofs.ResolvedTypes.{resolved-attribute}

@@ -7,7 +7,7 @@ use Rattle.cedar_names.specs.Order.{words_eq}
 use Rattle.serde_json.specs.Data.{Data, null, boolean, number, string, array, object, Members, no_members, member}
 use Rattle.serde_json.specs.Find.{get}
 use Rattle.cedar_json_values.specs.ActionValues.{long_of}
-use Rattle.cedar_world.specs.Schemas.{Schema}
+use Rattle.cedar_checks.specs.of_world.Schemas.{Schema}
 use Rattle.cedar_schema_error.specs.FullNames.{FullName}
 use Rattle.cedar_unfold.specs.Resolved.{Resolved, ResolvedAttributes, Boolean, Long, String, Extension, Set, Record, Entity, no_attributes, attribute}
 use Rattle.cedar_conform.specs.Checks.{Check, each_item, each_member, in_array}

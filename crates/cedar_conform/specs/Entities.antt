@@ -6,7 +6,7 @@ use Rattle.serde_json.specs.Find.{get}
 use Rattle.cedar_json_types.specs.Shapes.{Keyed}
 use Rattle.cedar_schema_error.specs.FullNames.{FullName, Uid}
 use Rattle.cedar_unfold.specs.Resolved.{Resolved, Record}
-use Rattle.cedar_world.specs.Schemas.{EntityKind, EnumeratedKind, Schema, SchemaEntity, StandardKind}
+use Rattle.cedar_checks.specs.of_world.Schemas.{EntityKind, EnumeratedKind, Schema, SchemaEntity, StandardKind}
 use Rattle.cedar_conform.specs.Fits.{IsListOf, Fits}
 use Rattle.cedar_conform.specs.References.{At, IsReference, Known}
 use Rattle.cedar_checks.specs.Lookups.{is_above}

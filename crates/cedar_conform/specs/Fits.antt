@@ -7,7 +7,7 @@ use Rattle.serde_json.specs.Find.{get}
 use Rattle.cedar_json_values.specs.ActionValues.{IsLong}
 use Rattle.cedar_schema_error.specs.FullNames.{FullName, Uid}
 use Rattle.cedar_unfold.specs.Resolved.{Resolved, ResolvedAttributes, Boolean, Long, String, Extension, Set, Record, Entity, no_attributes, attribute}
-use Rattle.cedar_world.specs.Schemas.{Schema, SchemaEntity}
+use Rattle.cedar_checks.specs.of_world.Schemas.{Schema, SchemaEntity}
 use Rattle.cedar_conform.specs.References.{IsReference, Known}
 
 -- the value is an array of which each item is P

@@ -8,7 +8,7 @@ use Rattle.serde_json.specs.Data.{Data, object, string, no_members, member}
 use Rattle.serde_json.specs.Find.{get}
 use Rattle.cedar_json_types.specs.Shapes.{Keyed}
 use Rattle.cedar_schema_error.specs.FullNames.{FullName, Uid}
-use Rattle.cedar_world.specs.Schemas.{EntityKind, EnumeratedKind, Schema, SchemaEntity, StandardKind}
+use Rattle.cedar_checks.specs.of_world.Schemas.{EntityKind, EnumeratedKind, Schema, SchemaEntity, StandardKind}
 use Rattle.cedar_checks.specs.Lookups.{declared_type}
 
 -- ---- references

@@ -10,7 +10,7 @@ use Rattle.serde_json.specs.Data.{Data, null, boolean, number, string, array, ob
 use Rattle.serde_json.specs.Find.{get}
 use Rattle.cedar_json_fault.specs.declared.json_fault.JsonKind.TheVariants as kinds
 use Rattle.cedar_json_values.specs.ActionValues.{long_of}
-use Rattle.cedar_world.specs.Schemas.{Schema, SchemaEntity}
+use Rattle.cedar_checks.specs.of_world.Schemas.{Schema, SchemaEntity}
 use Rattle.cedar_schema_error.specs.FullNames.{FullName, Uid}
 use Rattle.cedar_unfold.specs.Resolved.{Resolved, ResolvedAttributes, Boolean, Long, String, Extension, Set, Record, Entity, no_attributes, attribute}
 use Rattle.cedar_written.specs.Answers.{and_then}

@@ -8,8 +8,8 @@ use Rattle.cedar_data.specs.declared.memory.Failure.TheVariants.{Refused, NoMemo
 use Rattle.cedar_tree.specs.Trees.{Schema}
 use Rattle.cedar_convert_faults.specs.Conditions.{AreDeclared}
 use Rattle.cedar_convert_faults.specs.Gathering.{Gathered, namespaces_of}
-use Rattle.cedar_convert_fragment.specs.Declares.{Declares, fragment_of}
-use Rattle.cedar_convert_fragment.specs.Fragments.{Fragment}
+use Rattle.cedar_convert_namespaces.specs.of_convert_fragment.Declares.{Declares, fragment_of}
+use Rattle.cedar_convert_namespaces.specs.of_convert_fragment.Fragments.{Fragment}
 
 module _ {A E : Type 0} (seen : A → Fragment) (s : Schema) (gs : List Gathered) (is : gs ≡ namespaces_of s) where
   -- the fragment of an answer is declared

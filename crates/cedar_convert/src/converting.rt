@@ -8,9 +8,9 @@ ghost use Rattle.cedar_convert_faults.specs.Conditions.{AreDeclared};
 ghost use Rattle.cedar_convert_faults.specs.Faults.{faults_of, schema_faults};
 ghost use Rattle.cedar_convert_faults.specs.Gathering.{gathered_tree};
 ghost use Rattle.cedar_convert_warnings.specs.Shadowing.{shadows, warnings};
-ghost use Rattle.cedar_convert_fragment.specs.Declares.{Declares, fragment_of};
-ghost use Rattle.cedar_convert_fragment.specs.Fragments.{Fragment as Declared};
-ghost use Rattle.cedar_convert_fragment.specs.Views.{fragment_seen};
+ghost use Rattle.cedar_convert_namespaces.specs.of_convert_fragment.Declares.{Declares, fragment_of};
+ghost use Rattle.cedar_convert_namespaces.specs.of_convert_fragment.Fragments.{Fragment as Declared};
+ghost use Rattle.cedar_convert_namespaces.specs.of_convert_fragment.Views.{fragment_seen};
 
 use cedar_convert_namespaces::{Fragment, RawName, fragment_declared, refuse};
 use cedar_convert_warnings::{

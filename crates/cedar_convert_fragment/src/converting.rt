@@ -2,7 +2,7 @@
 ghost use Rattle.std.specs.Prelude.{◌≡◌, ⊤, IfOk};
 ghost use Rattle.cedar_data.specs.Answers.{Accepts, IfRefused};
 ghost use Rattle.cedar_tree.specs.Meanings.{node_of, type_tree};
-ghost use Rattle.cedar_convert_errors.specs.Texts.{fault_list};
+ghost use Rattle.cedar_convert_faults.specs.of_convert_errors.Texts.{fault_list};
 ghost use Rattle.cedar_convert_faults.specs.Conditions.{HasNoRepeat};
 ghost use Rattle.cedar_convert_faults.specs.TypeRepeats.{leftmost_repeat, repeat_fault};
 ghost use Rattle.cedar_convert_fragment.specs.Declares.{type_at};

@@ -21,10 +21,10 @@ use Rattle.cedar_fragment.specs.declared.definitions.EntityType.{EntityType}
 use Rattle.cedar_fragment.specs.declared.definitions.NamespaceDefinition.{NamespaceDefinition}
 use Rattle.cedar_written.specs.declared.common_type_id.CommonTypeId.{CommonTypeId}
 use Rattle.cedar_written.specs.declared.raw_name.RawName.{RawName}
-use Rattle.cedar_convert_faults.specs.Gathering.{Declarations, Gathered, namespace_cmp, namespace_name}
-use Rattle.cedar_convert_fragment.specs.Declares.{actions, commons, declared_in, definition_of, entities, given, is_reserved_name}
-use Rattle.cedar_convert_fragment.specs.Fragments as seen
-use Rattle.cedar_convert_fragment.specs.Views.{action_seen, actions_seen, common_seen, common_word, commons_seen, definition_seen, entities_seen, entity_seen, namespace_words, namespaces_seen}
+use Rattle.cedar_convert_declarations.specs.of_convert_faults.Gathering.{Declarations, Gathered, namespace_cmp, namespace_name}
+use Rattle.cedar_convert_declarations.specs.of_convert_fragment.Declares.{actions, commons, declared_in, definition_of, entities, given, is_reserved_name}
+use Rattle.cedar_convert_declarations.specs.of_convert_fragment.Fragments as seen
+use Rattle.cedar_convert_declarations.specs.of_convert_fragment.Views.{action_seen, actions_seen, common_seen, common_word, commons_seen, definition_seen, entities_seen, entity_seen, namespace_words, namespaces_seen}
 
 -- a namespace
 pub namespace-added : (g : Gathered) (name : Option Name) (definition : NamespaceDefinition RawName over_raw) (old new : List (Option Name × NamespaceDefinition RawName over_raw)) → namespace_words name ≡ namespace_name g → is_reserved_name g.name ≡ false

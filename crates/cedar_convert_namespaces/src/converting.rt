@@ -3,10 +3,10 @@ ghost use Rattle.std.specs.Prelude.{◌≡◌, [], ⊤, map, IfOk};
 ghost use Rattle.cedar_data.specs.Answers.{Accepts, IfRefused};
 ghost use Rattle.cedar_tree.specs.Meanings.{annotated_tree, annotations_tree, decl_tree, node_of};
 ghost use Rattle.cedar_convert_errors.specs.Texts.{fault_list};
-ghost use Rattle.cedar_convert_faults.specs.Conditions.{AreSound};
-ghost use Rattle.cedar_convert_faults.specs.Faults.{faults_among};
-ghost use Rattle.cedar_convert_fragment.specs.Declares.{definition_of};
-ghost use Rattle.cedar_convert_fragment.specs.Views.{definition_seen};
+ghost use Rattle.cedar_convert_declarations.specs.of_convert_faults.Conditions.{AreSound};
+ghost use Rattle.cedar_convert_declarations.specs.of_convert_faults.Faults.{faults_among};
+ghost use Rattle.cedar_convert_declarations.specs.of_convert_fragment.Declares.{definition_of};
+ghost use Rattle.cedar_convert_declarations.specs.of_convert_fragment.Views.{definition_seen};
 
 use crate::namespaces::definition_declared;
 use cedar_convert_declarations::{

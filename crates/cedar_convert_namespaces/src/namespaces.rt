@@ -3,10 +3,10 @@ ghost use Rattle.std.specs.Prelude.{◌≡◌, [], ◌∷◌, ◌++◌, true, fa
 ghost use Rattle.cedar_data.specs.Maps.{map_of};
 ghost use Rattle.cedar_names.specs.Order.{word_cmp};
 ghost use Rattle.cedar_tree.specs.Meanings.{annotated_tree, annotations_tree, decl_tree, node_of, path_tree};
-ghost use Rattle.cedar_convert_faults.specs.Gathering.{gathered_tree};
-ghost use Rattle.cedar_convert_fragment.specs.Declares as declares;
-ghost use Rattle.cedar_convert_fragment.specs.Declares.{declared_by, declared_in, definition_of, fragment_of, given, is_reserved_name};
-ghost use Rattle.cedar_convert_fragment.specs.Views.{actions_seen, commons_seen, definition_seen, entities_seen, fragment_seen, namespace_words, namespaces_seen};
+ghost use Rattle.cedar_convert_declarations.specs.of_convert_faults.Gathering.{gathered_tree};
+ghost use Rattle.cedar_convert_declarations.specs.of_convert_fragment.Declares as declares;
+ghost use Rattle.cedar_convert_declarations.specs.of_convert_fragment.Declares.{declared_by, declared_in, definition_of, fragment_of, given, is_reserved_name};
+ghost use Rattle.cedar_convert_declarations.specs.of_convert_fragment.Views.{actions_seen, commons_seen, definition_seen, entities_seen, fragment_seen, namespace_words, namespaces_seen};
 
 use cedar_convert_declarations::{
     ActionType, CommonType, CommonTypeId, EntityType, Fragment, Gathered, Kind,

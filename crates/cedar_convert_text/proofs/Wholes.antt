@@ -6,11 +6,11 @@ use Rattle.cedar_data.specs.declared.memory.Failure.{Failure}
 use Rattle.cedar_data.specs.declared.memory.Failure.TheVariants.{Refused, NoMemory}
 use Rattle.cedar_tree.specs.Trees.{Schema, Text}
 use Rattle.cedar_syntax.specs.Texts.{ReadsText}
-use Rattle.cedar_convert_faults.specs.Faults.{schema_faults}
-use Rattle.cedar_convert_warnings.specs.Shadowing.{warnings}
-use Rattle.cedar_convert_warnings.specs.declared.warnings.SchemaWarning.{SchemaWarning}
-use Rattle.cedar_convert_fragment.specs.Declares.{Declares}
-use Rattle.cedar_convert_fragment.specs.Fragments.{Fragment}
+use Rattle.cedar_convert.specs.of_convert_faults.Faults.{schema_faults}
+use Rattle.cedar_convert.specs.of_convert_warnings.Shadowing.{warnings}
+use Rattle.cedar_convert.specs.of_convert_warnings.declared.warnings.SchemaWarning.{SchemaWarning}
+use Rattle.cedar_convert.specs.of_convert_fragment.Declares.{Declares}
+use Rattle.cedar_convert.specs.of_convert_fragment.Fragments.{Fragment}
 use Rattle.cedar_convert_text.specs.Texts.{AreFaults, DeclaresText, TellsText}
 use Rattle.cedar_convert_text.specs.declared.parsing.CedarSchemaParseErrors.{CedarSchemaParseErrors}
 use Rattle.cedar_convert_text.specs.declared.parsing.CedarSchemaParseErrors.TheVariants.{SyntaxError, JsonError}

@@ -8,11 +8,11 @@ use Rattle.cedar_syntax.specs.Causes.{Explains}
 use Rattle.cedar_syntax.specs.Texts.{ReadsText}
 use Rattle.cedar_convert_errors.specs.declared.faults.ToJsonSchemaError.{ToJsonSchemaError}
 use Rattle.cedar_convert_errors.specs.Texts.{all_spans, fault_help, fault_list, fault_text, first_fault}
-use Rattle.cedar_convert_faults.specs.Faults.{schema_faults}
-use Rattle.cedar_convert_warnings.specs.Shadowing.{warnings}
-use Rattle.cedar_convert_warnings.specs.declared.warnings.SchemaWarning.{SchemaWarning}
-use Rattle.cedar_convert_fragment.specs.Declares.{Declares}
-use Rattle.cedar_convert_fragment.specs.Fragments.{Fragment}
+use Rattle.cedar_convert.specs.of_convert_faults.Faults.{schema_faults}
+use Rattle.cedar_convert.specs.of_convert_warnings.Shadowing.{warnings}
+use Rattle.cedar_convert.specs.of_convert_warnings.declared.warnings.SchemaWarning.{SchemaWarning}
+use Rattle.cedar_convert.specs.of_convert_fragment.Declares.{Declares}
+use Rattle.cedar_convert.specs.of_convert_fragment.Fragments.{Fragment}
 use Rattle.cedar_convert_text.specs.declared.parsing.CedarSchemaParseErrors.{CedarSchemaParseErrors}
 use Rattle.cedar_convert_text.specs.declared.parsing.CedarSchemaParseErrors.TheVariants.{SyntaxError, JsonError}
 

@@ -6,13 +6,13 @@ ghost use Rattle.cedar_data.specs.Answers.{Accepts, IfRefused};
 ghost use Rattle.cedar_names.specs.Extensions.{extension_words};
 ghost use Rattle.cedar_tree.specs.Meanings.{schema_tree};
 ghost use Rattle.cedar_tree.specs.Trees.{Schema as SchemaTree};
-ghost use Rattle.cedar_convert_warnings.specs.Shadowing.{warnings};
+ghost use Rattle.cedar_convert.specs.of_convert_warnings.Shadowing.{warnings};
 ghost use Rattle.cedar_syntax.specs.Texts.{ReadsText};
-ghost use Rattle.cedar_convert_faults.specs.Faults.{schema_faults};
-ghost use Rattle.cedar_convert_fragment.specs.Declares.{Declares};
-ghost use Rattle.cedar_convert_fragment.specs.Fragments.{Fragment as Declared};
+ghost use Rattle.cedar_convert.specs.of_convert_faults.Faults.{schema_faults};
+ghost use Rattle.cedar_convert.specs.of_convert_fragment.Declares.{Declares};
+ghost use Rattle.cedar_convert.specs.of_convert_fragment.Fragments.{Fragment as Declared};
 ghost use Rattle.cedar_convert_text.specs.Texts.{AreFaults, DeclaresText, TellsText, parse_help, parse_spans, parse_text};
-ghost use Rattle.cedar_convert_fragment.specs.Views.{fragment_seen};
+ghost use Rattle.cedar_convert.specs.of_convert_fragment.Views.{fragment_seen};
 ghost use Rattle.cedar_convert_text.specs.declared.parsing.CedarSchemaParseErrors.TheVariants as error_of;
 
 use cedar_convert::{

@@ -4,7 +4,7 @@ use Rattle.std.proofs.Common.{◌≡◌, ◌||◌, ℕ, Bool, true, false, List,
 use Rattle.std.specs.List.{find}
 use Rattle.cedar_names.specs.Components.{components}
 use Rattle.cedar_names.specs.declared.internal_name.InternalName.{InternalName}
-use Rattle.cedar_text.specs.Lists.{elements}
+use Rattle.cedar_names.specs.of_text.Lists.{elements}
 use Rattle.cedar_definitions.specs.ActionUids.{over_conditional, uid_of}
 use Rattle.cedar_written.specs.Possibilities.{kind_of, possibilities_of}
 use Rattle.cedar_written.specs.declared.conditional_name.ConditionalName.{ConditionalName}

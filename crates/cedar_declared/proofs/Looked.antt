@@ -22,7 +22,7 @@ use Rattle.cedar_names.specs.Names.{internal_cmp}
 use Rattle.cedar_names.specs.Order.{word_cmp, words_cmp}
 use Rattle.cedar_names.specs.declared.id.Id.{Id}
 use Rattle.cedar_names.specs.declared.internal_name.InternalName.{InternalName}
-use Rattle.cedar_text.specs.declared.location.Loc.{Loc}
+use Rattle.cedar_names.specs.of_text.declared.location.Loc.{Loc}
 use Rattle.cedar_schema_error.specs.FullNames.{FullName, is_qualified}
 use Rattle.cedar_declared.specs.Held.{single_names, type_names}
 use Rattle.cedar_declared.specs.declared.type_names.TypeNames.{TypeNames}

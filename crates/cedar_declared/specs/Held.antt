@@ -5,7 +5,7 @@ use Rattle.std.specs.List.{filter}
 use Rattle.cedar_names.specs.Components.{components}
 use Rattle.cedar_names.specs.Identifiers.{id_word}
 use Rattle.cedar_names.specs.declared.id.Id.{Id}
-use Rattle.cedar_text.specs.declared.location.Loc.{Loc}
+use Rattle.cedar_names.specs.of_text.declared.location.Loc.{Loc}
 use Rattle.cedar_schema_error.specs.FullNames.{FullName, is_qualified, uid_in}
 use Rattle.cedar_declared.specs.Names.{Names}
 use Rattle.cedar_declared.specs.declared.all_defs.AllDefs.{AllDefs}

@@ -4,7 +4,7 @@ use Rattle.std.specs.Prelude.{ℕ, List, [], Option, Some, None, unwrap_or}
 use Rattle.std.specs.List.{find}
 use Rattle.std.specs.declared.result.Result.{Result}
 use Rattle.std.specs.declared.result.Result.TheVariants.{Ok, Err}
-use Rattle.cedar_text.specs.Lists.{elements}
+use Rattle.cedar_names.specs.of_text.Lists.{elements}
 use Rattle.cedar_names.specs.Components.{components}
 use Rattle.cedar_names.specs.declared.internal_name.InternalName.{InternalName}
 use Rattle.cedar_definitions.specs.ActionUids.{over_conditional, uid_of}

@@ -10,7 +10,7 @@ use Rattle.cedar_names.specs.Names.{internal_cmp}
 use Rattle.cedar_names.specs.Order.{words_cmp}
 use Rattle.cedar_names.specs.declared.id.Id.{Id}
 use Rattle.cedar_names.specs.declared.internal_name.InternalName.{InternalName}
-use Rattle.cedar_text.specs.declared.location.Loc.{Loc}
+use Rattle.cedar_names.specs.of_text.declared.location.Loc.{Loc}
 use Rattle.cedar_schema_error.specs.FullNames.{FullName}
 use Rattle.cedar_declared.specs.Basenames.{id_cmp}
 use Rattle.cedar_declared.specs.Held.{type_names}

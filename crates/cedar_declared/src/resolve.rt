@@ -3,7 +3,7 @@ ghost use Rattle.std.specs.Prelude.{◌≡◌, Some, true};
 ghost use Rattle.std.specs.List.{find};
 ghost use Rattle.std.specs.Option.{is_some};
 ghost use Rattle.cedar_names.specs.Components.{components};
-ghost use Rattle.cedar_text.specs.Lists.{elements_left};
+ghost use Rattle.cedar_names.specs.of_text.Lists.{elements_left};
 ghost use Rattle.cedar_written.specs.Possibilities.{kind_of, possibilities_of};
 ghost use Rattle.cedar_declared.specs.Held.{names_of};
 ghost use Rattle.cedar_declared.specs.Names.{is_declared};

@@ -1,12 +1,12 @@
 -- SPDX-License-Identifier: Apache-2.0
 -- Definitions of common types alone.
 use Rattle.std.specs.Prelude.{◌≡◌, List, [], Option, None, map}
-use Rattle.cedar_data.specs.Maps.{map_of}
-use Rattle.cedar_names.specs.Components.{internal_name, qualified}
-use Rattle.cedar_names.specs.Identifiers.{id_of}
-use Rattle.cedar_names.specs.Names.{internal_cmp}
-use Rattle.cedar_names.specs.declared.id.UnreservedId.{UnreservedId}
-use Rattle.cedar_names.specs.declared.internal_name.InternalName.{InternalName}
+use Rattle.cedar_written.specs.of_data.Maps.{map_of}
+use Rattle.cedar_written.specs.of_names.Components.{internal_name, qualified}
+use Rattle.cedar_written.specs.of_names.Identifiers.{id_of}
+use Rattle.cedar_written.specs.of_names.Names.{internal_cmp}
+use Rattle.cedar_written.specs.of_names.declared.id.UnreservedId.{UnreservedId}
+use Rattle.cedar_written.specs.of_names.declared.internal_name.InternalName.{InternalName}
 use Rattle.cedar_fragment.specs.ActionUids.{over_conditional}
 use Rattle.cedar_written.specs.declared.conditional_name.ConditionalName.{ConditionalName}
 use Rattle.cedar_written.specs.declared.ty.SchemaType.{SchemaType}

@@ -2,7 +2,7 @@
 -- What iterators over definitions still give.
 use Rattle.std.specs.Prelude.{List, [], map, Option, Some, None}
 use Rattle.std.specs.Slice.Iter.{iter_rest}
-use Rattle.cedar_names.specs.declared.internal_name.InternalName.{InternalName}
+use Rattle.cedar_written.specs.of_names.declared.internal_name.InternalName.{InternalName}
 use Rattle.cedar_written.specs.declared.ref_name.RefName as ref_name
 use Rattle.cedar_definitions.specs.declared.structures.EntityTypeFragment.{EntityTypeFragment}
 use Rattle.cedar_definitions.specs.declared.structures.EntityTypeFragment.TheVariants.{Enum, Standard}

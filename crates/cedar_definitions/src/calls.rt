@@ -2,8 +2,8 @@
 ghost use Rattle.std.specs.Prelude.{◌≡◌, []};
 ghost use Rattle.std.specs.Map.{keys_of};
 ghost use Rattle.std.specs.Option.{option_copied};
-ghost use Rattle.cedar_data.specs.Sets.{contains};
-ghost use Rattle.cedar_names.specs.Names.{entity_cmp};
+ghost use Rattle.cedar_written.specs.of_data.Sets.{contains};
+ghost use Rattle.cedar_written.specs.of_names.Names.{entity_cmp};
 ghost use Rattle.cedar_definitions.specs.Structures.{definitions_of};
 
 use crate::structures::{
@@ -11,7 +11,7 @@ use crate::structures::{
     ValidatorNamespaceDef, ValidatorSchemaFragment,
 };
 use cedar_fragment::{RefName, SchemaType};
-use cedar_names::{EntityType, EntityUID, InternalName, Items, Map, MapKeys, Set, SetIter};
+use cedar_written::{EntityType, EntityUID, InternalName, Items, Map, MapKeys, Set, SetIter};
 use std::alloc::Global;
 
 /// The full names of entity types, in order.

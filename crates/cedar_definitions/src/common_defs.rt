@@ -1,13 +1,13 @@
 // SPDX-License-Identifier: Apache-2.0
 ghost use Rattle.std.specs.Prelude.{◌≡◌, [], ◌∷◌, IfOk};
 ghost use Rattle.std.specs.Option.{option_copied};
-ghost use Rattle.cedar_data.specs.Maps.{map_of};
-ghost use Rattle.cedar_names.specs.Names.{internal_cmp};
+ghost use Rattle.cedar_written.specs.of_data.Maps.{map_of};
+ghost use Rattle.cedar_written.specs.of_names.Names.{internal_cmp};
 ghost use Rattle.cedar_definitions.specs.CommonDefs.{IsOfCommonTypes, name_in, named_types};
 
 use crate::structures::{ActionsDef, CommonTypeDefs, EntityTypesDef, ValidatorNamespaceDef};
 use cedar_fragment::{ConditionalName, SchemaType};
-use cedar_names::{InternalName, Map, Mem, UnreservedId};
+use cedar_written::{InternalName, Map, Mem, UnreservedId};
 use std::alloc::Global;
 use std::collections::BTreeMap;
 

@@ -4,7 +4,7 @@ use crate::structures::{
     ValidatorApplySpec, ValidatorNamespaceDef, ValidatorSchemaFragment,
 };
 use cedar_fragment::RefName;
-use cedar_names::{Dup, Mem, dup_four, dup_three, dup_two};
+use cedar_written::{Dup, Mem, dup_four, dup_three, dup_two};
 use std::alloc::Global;
 
 impl<N: RefName + Ord + Dup + Drop, A: Ord + Dup + Drop> Dup for ValidatorSchemaFragment<N, A> {

@@ -2,7 +2,7 @@
 use cedar_fragment::{
     ActionEntityUID, Attributes, AttributesOrContext, RefName, SchemaType, ValueMap,
 };
-use cedar_names::{EntityType, EntityUID, InternalName, Items, Loc, Map, NonEmpty, Set, Text};
+use cedar_written::{EntityType, EntityUID, InternalName, Items, Loc, Map, NonEmpty, Set, Text};
 
 /// A list of namespace definitions, over names `N`, where actions apply to names `A`.
 #[derive(Debug, Drop)]

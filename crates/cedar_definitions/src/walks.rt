@@ -7,7 +7,7 @@ ghost use Rattle.cedar_definitions.specs.Walks.{namespaces_left, namespaces_of, 
 
 use crate::structures::{EntityTypeFragment, ValidatorNamespaceDef, ValidatorSchemaFragment};
 use cedar_fragment::RefName;
-use cedar_names::{InternalName, SetIter};
+use cedar_written::{InternalName, SetIter};
 use std::slice::Iter;
 
 /// The namespaces of definitions, in the order of the definitions; none for the unnamed one.

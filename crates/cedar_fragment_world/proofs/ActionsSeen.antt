@@ -28,9 +28,9 @@ use Rattle.cedar_fragment.specs.declared.definitions.ApplySpec.{ApplySpec}
 use Rattle.cedar_schema_error.specs.NameReferences.{ActionReference, NameReference, action_reference_of, reference_of}
 use Rattle.cedar_namespace_definitions.specs.Definitions.{action_made, action_made_in, context_in, no_context, parents_in, principals_in, resources_in, sure, types_in}
 use Rattle.cedar_namespace_definitions.specs.Orders.{conditional_cmp, parent_cmp}
-use Rattle.cedar_unfold.proofs.SchemaTypes.{type_is}
-use Rattle.cedar_unfold.specs.Written.{Record, no_attributes}
-use Rattle.cedar_unfold.specs.WrittenViews.{attribute_view, record_view, type_view, variant_view}
+use Rattle.cedar_world.proofs.of_unfold.SchemaTypes.{type_is}
+use Rattle.cedar_world.specs.of_unfold.Written.{Record, no_attributes}
+use Rattle.cedar_world.specs.of_unfold.WrittenViews.{attribute_view, record_view, type_view, variant_view}
 use Rattle.cedar_world.specs.DefinitionViews as views
 use Rattle.cedar_convert_fragment.specs.Views.{action_seen, apply_seen, name_at, parent_seen}
 use Rattle.cedar_fragment_world.specs.FragmentWorlds as worlds

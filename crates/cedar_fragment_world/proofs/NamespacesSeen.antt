@@ -19,9 +19,9 @@ use Rattle.cedar_fragment.specs.declared.definitions.EntityType.{EntityType}
 use Rattle.cedar_fragment.specs.declared.definitions.NamespaceDefinition.{NamespaceDefinition}
 use Rattle.cedar_schema_error.specs.FullNames.{FullName, Uid}
 use Rattle.cedar_schema_error.specs.NameReferences.{ActionReference, NameReference}
-use Rattle.cedar_definitions.specs.declared.structures.ActionFragment.{ActionFragment}
-use Rattle.cedar_definitions.specs.declared.structures.EntityTypeFragment.{EntityTypeFragment}
-use Rattle.cedar_definitions.specs.declared.structures.ValidatorNamespaceDef.{ValidatorNamespaceDef}
+use Rattle.cedar_namespace_definitions.specs.of_definitions.declared.structures.ActionFragment.{ActionFragment}
+use Rattle.cedar_namespace_definitions.specs.of_definitions.declared.structures.EntityTypeFragment.{EntityTypeFragment}
+use Rattle.cedar_namespace_definitions.specs.of_definitions.declared.structures.ValidatorNamespaceDef.{ValidatorNamespaceDef}
 use Rattle.cedar_namespace_definitions.specs.Definitions as defined
 use Rattle.cedar_namespace_definitions.specs.Definitions.{AreDefinitionsOf, IsDefinitionOf}
 use Rattle.cedar_namespace_definitions.specs.NamesIn.{ActionKey, action_key, entity_key}

@@ -26,9 +26,9 @@ use Rattle.cedar_written.specs.declared.ty.TypeVariant.{TypeVariant}
 use Rattle.cedar_written.specs.declared.ty.TypeVariant.TheVariants as variant
 use Rattle.cedar_schema_error.specs.NameReferences.{reference_of}
 use Rattle.cedar_namespace_definitions.specs.Definitions.{sure}
-use Rattle.cedar_unfold.proofs.SchemaTypes.{is_common, type_is, variant_boolean, variant_either, variant_entity, variant_extension, variant_long, variant_set, variant_string}
-use Rattle.cedar_unfold.specs.Written.{Set, Record, Entity, EntityOrCommon, CommonTypeRef, attribute}
-use Rattle.cedar_unfold.specs.WrittenViews.{attribute_view, record_view, type_view, variant_view, written_attribute, written_attributes, written_record}
+use Rattle.cedar_world.proofs.of_unfold.SchemaTypes.{is_common, type_is, variant_boolean, variant_either, variant_entity, variant_extension, variant_long, variant_set, variant_string}
+use Rattle.cedar_world.specs.of_unfold.Written.{Set, Record, Entity, EntityOrCommon, CommonTypeRef, attribute}
+use Rattle.cedar_world.specs.of_unfold.WrittenViews.{attribute_view, record_view, type_view, variant_view, written_attribute, written_attributes, written_record}
 use Rattle.cedar_world.specs.DefinitionViews.{type_in, variant_in}
 use Rattle.cedar_convert_fragment.specs.Fragments.{FieldAt, fields}
 use Rattle.cedar_convert_fragment.specs.Views.{attribute_seen, form_seen, record_seen, see_attribute, see_form, see_record, see_type, type_seen}

@@ -11,7 +11,7 @@ use Rattle.cedar_written.specs.declared.reference_type.ReferenceType.TheVariants
 use Rattle.cedar_schema_error.specs.FullNames.{FullName, Uid}
 use Rattle.cedar_schema_error.specs.NameReferences.{ActionReference, NameReference}
 use Rattle.cedar_namespace_definitions.specs.Definitions.{no_values, types_in}
-use Rattle.cedar_unfold.specs.Written.{Written, WrittenAttributes, Boolean, Long, String, Extension, Set, Record, Entity, EntityOrCommon, CommonTypeRef, no_attributes, attribute}
+use Rattle.cedar_world.specs.of_unfold.Written.{Written, WrittenAttributes, Boolean, Long, String, Extension, Set, Record, Entity, EntityOrCommon, CommonTypeRef, no_attributes, attribute}
 use Rattle.cedar_world.specs.Definitions.{ActionDefinition, EntityDefinition, Enumerated, Namespace, Standard}
 use Rattle.cedar_world.specs.Worlds.{World}
 use Rattle.cedar_convert_fragment.specs.Fragments.{ActionAt, ActionContent, AppliesTo, Declared, Definition, EntityContent, Fields, Form, Fragment, NameAt, TypeAt, written, common_type, string, long, boolean, set_of, record_of, entity, entity_or_common, extension, no_fields, field, Shaped, Listed}

@@ -1,7 +1,7 @@
 // SPDX-License-Identifier: Apache-2.0
 ghost use Rattle.std.specs.Prelude.{◌≡◌, List, map};
 ghost use Rattle.cedar_convert_fragment.specs.Views.{fragment_seen};
-ghost use Rattle.cedar_definitions.specs.declared.structures.ValidatorNamespaceDef.{ValidatorNamespaceDef};
+ghost use Rattle.cedar_namespace_definitions.specs.of_definitions.declared.structures.ValidatorNamespaceDef.{ValidatorNamespaceDef};
 ghost use Rattle.cedar_fragment.specs.ActionUids.{over_conditional, over_raw};
 ghost use Rattle.cedar_fragment.specs.declared.definitions.Fragment.{Fragment};
 ghost use Rattle.cedar_fragment_world.specs.FragmentFaults.{fragment_faults};

@@ -8,7 +8,7 @@ use Rattle.cedar_closure.specs.Closure as closure
 use Rattle.cedar_data.specs.Firsts.{IsLeast}
 use Rattle.cedar_data.specs.Maps.{IsSortedMap}
 use Rattle.cedar_data.specs.Sets.{contains, IsSetOf}
-use Rattle.cedar_declared.specs.Names.{Names, action_target, target}
+use Rattle.cedar_tables.specs.of_declared.Names.{Names, action_target, target}
 use Rattle.cedar_hierarchy.specs.Children.{has_parent, is_child}
 use Rattle.cedar_hierarchy.specs.Made.{MakesAction, MakesEntity}
 use Rattle.cedar_hierarchy.specs.Nodes.{IsActionNode, IsEntityNode}

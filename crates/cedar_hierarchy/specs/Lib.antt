@@ -1,4 +1,5 @@
 -- SPDX-License-Identifier: Apache-2.0
+pub mod of_tables
 pub mod Children
 pub mod Made
 pub mod Members

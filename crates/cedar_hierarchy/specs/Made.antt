@@ -2,7 +2,7 @@
 -- Entity types and actions of a schema, as they are made of outlines and of the types that uses unfold to.
 use Rattle.std.specs.Prelude.{◌≡◌, ℕ, List, Option, Some, None, map}
 use Rattle.cedar_data.specs.Sets.{IsSetOf}
-use Rattle.cedar_declared.specs.Names.{Names}
+use Rattle.cedar_tables.specs.of_declared.Names.{Names}
 use Rattle.cedar_hierarchy.specs.Outlined.{ActionOutlineDescends, OutlineDescends}
 use Rattle.cedar_hierarchy.specs.Targets.{AreMeant}
 use Rattle.cedar_hierarchy.specs.Uses.{Uses, record_at_use, type_at_use}

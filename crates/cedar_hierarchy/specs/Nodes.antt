@@ -2,7 +2,7 @@
 -- Entity types and actions before the closure: the children of each in place of its descendants.
 use Rattle.std.specs.Prelude.{◌≡◌, List}
 use Rattle.cedar_closure.specs.Closure.{IsLeastOnCycle}
-use Rattle.cedar_declared.specs.Names.{Names}
+use Rattle.cedar_tables.specs.of_declared.Names.{Names}
 use Rattle.cedar_hierarchy.specs.Children.{children_at}
 use Rattle.cedar_hierarchy.specs.Made.{DescribesAction, DescribesEntity}
 use Rattle.cedar_hierarchy.specs.Uses.{Uses}

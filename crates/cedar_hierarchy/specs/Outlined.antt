@@ -2,7 +2,7 @@
 -- What descends from what, among the outlines of entity types and of actions.
 use Rattle.std.specs.Prelude.{List}
 use Rattle.cedar_closure.specs.Chains.{Reaches}
-use Rattle.cedar_declared.specs.Names.{Names, action_target, target}
+use Rattle.cedar_tables.specs.of_declared.Names.{Names, action_target, target}
 use Rattle.cedar_hierarchy.specs.Members.{IsMember}
 use Rattle.cedar_names.specs.Order.{words_cmp}
 use Rattle.cedar_schema_error.specs.FullNames.{FullName, Uid, uid_cmp}

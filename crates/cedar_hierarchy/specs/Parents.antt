@@ -2,7 +2,7 @@
 -- The parents that outlines have.
 use Rattle.std.specs.Prelude.{Bool}
 use Rattle.std.specs.List.{list_any}
-use Rattle.cedar_declared.specs.Names.{Names}
+use Rattle.cedar_tables.specs.of_declared.Names.{Names}
 use Rattle.cedar_hierarchy.specs.Targets.{is_action_meant, is_type_meant}
 use Rattle.cedar_names.specs.declared.entity_uid.EntityUID.{EntityUID}
 use Rattle.cedar_names.specs.declared.name.EntityType.{EntityType}

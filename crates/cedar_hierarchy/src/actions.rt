@@ -3,7 +3,7 @@ ghost use Rattle.std.specs.Prelude.{◌≡◌, [], map, IfOk};
 ghost use Rattle.std.specs.List.{AllZip};
 ghost use Rattle.cedar_closure.specs.Closure.{IsAcyclic, IsClosure, IsLeastOnCycle};
 ghost use Rattle.cedar_data.specs.Firsts.{IsLeast};
-ghost use Rattle.cedar_declared.specs.Held.{names_of};
+ghost use Rattle.cedar_tables.specs.of_declared.Held.{names_of};
 ghost use Rattle.cedar_hierarchy.specs.Made.{MakesAction, context_at_use};
 ghost use Rattle.cedar_hierarchy.specs.Nodes.{IsActionNode, TellsCycle};
 ghost use Rattle.cedar_hierarchy.specs.Outlined.{ActionOutlineDescends};

@@ -2,7 +2,7 @@
 ghost use Rattle.std.specs.Prelude.{◌≡◌, [], map, IfOk};
 ghost use Rattle.std.specs.List.{AllZip};
 ghost use Rattle.cedar_closure.specs.Closure.{IsClosure};
-ghost use Rattle.cedar_declared.specs.Held.{names_of};
+ghost use Rattle.cedar_tables.specs.of_declared.Held.{names_of};
 ghost use Rattle.cedar_hierarchy.specs.Made.{MakesEntity, entity_attributes, entity_kind};
 ghost use Rattle.cedar_hierarchy.specs.Nodes.{IsEntityNode};
 ghost use Rattle.cedar_hierarchy.specs.Parents.{is_type_parent};

@@ -6,7 +6,7 @@ ghost use Rattle.serde_json.specs.View.{view};
 ghost use Rattle.cedar_json_types.specs.Faults.{Fault};
 ghost use Rattle.cedar_json_types.specs.Types.{AttributeShape, Part, attribute_fault, part_fault};
 ghost use Rattle.cedar_json_types.specs.declared.keyed.KeySet.TheVariants as set;
-ghost use Rattle.cedar_json_read.specs.Declarations.{IsAction, IsApplySpec, IsCommonType, IsEntityType, IsParent, action_fault, apply_fault, common_type_fault, entity_fault, parent_fault};
+ghost use Rattle.cedar_json_namespaces.specs.of_json_read.Declarations.{IsAction, IsApplySpec, IsCommonType, IsEntityType, IsParent, action_fault, apply_fault, common_type_fault, entity_fault, parent_fault};
 ghost use Rattle.cedar_json_namespaces.specs.Namespaces.{IsFragment, IsNamespace, fragment_fault, namespace_fault};
 
 use cedar_data::Out;
@@ -15,8 +15,7 @@ use cedar_fragment::{
     RawName, SchemaType, TypeOfAttribute,
 };
 use cedar_json_fault::JsonDeserializationError;
-use cedar_json_namespaces::{read_fragment, read_namespace};
-use cedar_json_read::ReadDeclaration;
+use cedar_json_namespaces::{ReadDeclaration, read_fragment, read_namespace};
 use cedar_json_types::ReadPart;
 use serde_json::Value;
 use std::alloc::Global;

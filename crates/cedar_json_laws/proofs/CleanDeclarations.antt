@@ -35,8 +35,8 @@ use Rattle.cedar_json_types.specs.Types.{Part, part_fault}
 use Rattle.cedar_json_types.specs.declared.keyed.KeySet.TheVariants as set
 use Rattle.cedar_json_types.proofs.Chains.{under-none}
 use Rattle.cedar_json_values.specs.ActionValues.{ValuePart, ValuesShape, value_fault}
-use Rattle.cedar_json_read.specs.Declarations.{IsAction, IsApplySpec, IsCommonType, IsEntityType, IsKind, IsParent, IsShape, IsStandard, AreChoices, ShapeAt, action_fault, apply_fault, choices_fault, common_type_fault, empty_shape, entity_fault, kind_fault, names_fault, parent_fault, present, standard_fault, unexpected, values_fault}
-use Rattle.cedar_json_read.proofs.ChoiceLemmas.{no_fields, some_choices}
+use Rattle.cedar_json_namespaces.specs.of_json_read.Declarations.{IsAction, IsApplySpec, IsCommonType, IsEntityType, IsKind, IsParent, IsShape, IsStandard, AreChoices, ShapeAt, action_fault, apply_fault, choices_fault, common_type_fault, empty_shape, entity_fault, kind_fault, names_fault, parent_fault, present, standard_fault, unexpected, values_fault}
+use Rattle.cedar_json_namespaces.proofs.of_json_read.ChoiceLemmas.{no_fields, some_choices}
 use Rattle.cedar_json_namespaces.specs.Namespaces.{IsFragment, IsNamespace, NamesNamespace, NamespaceEntry, common_cmp, fragment_fault, id_cmp, namespace_entry_fault, namespace_fault, namespace_name_fault, noted_fault}
 use Rattle.cedar_json_laws.proofs.CleanParts.{neither_fault, keyed_clean, at_clean, may_have_clean, or_null_clean, present_clean, array_clean, map_clean, entry_clean, any_text_clean, is_text_clean, name_clean, identifies_clean, common_id_clean, notes_clean}
 use Rattle.cedar_json_laws.proofs.CleanTypes.{part_clean}

@@ -38,7 +38,7 @@ use Rattle.cedar_json_types.specs.Shapes.{ArrayOf, Entry, IsText, MapOf, Nothing
 use Rattle.cedar_json_types.specs.Types.{Part}
 use Rattle.cedar_json_types.specs.declared.keyed.KeySet.TheVariants as set
 use Rattle.cedar_json_values.specs.ActionValues.{ValuePart, ValuesShape}
-use Rattle.cedar_json_read.specs.Declarations.{AreChoices, IsAction, IsApplySpec, IsCommonType, IsEntityType, IsKind, IsParent, IsShape, IsStandard, Noted, ShapeAt, empty_shape}
+use Rattle.cedar_json_namespaces.specs.of_json_read.Declarations.{AreChoices, IsAction, IsApplySpec, IsCommonType, IsEntityType, IsKind, IsParent, IsShape, IsStandard, Noted, ShapeAt, empty_shape}
 use Rattle.cedar_json_namespaces.specs.Namespaces.{IsFragment, IsNamespace, NamesNamespace, NamespaceEntry, common_cmp, id_cmp}
 use Rattle.cedar_json_laws.proofs.OnceParts.{annotations_once, array_once, at_once, common_id_once, entry_once, identifies_once, internal_once, is_once, map_once, may_have_once, name_once, no_annotations_once, no_array, no_map, nothing_once, or_null_once, present_once, text_key_once, text_once}
 use Rattle.cedar_json_laws.proofs.OnceTypes.{part_once}

@@ -14,7 +14,7 @@ ghost use Rattle.cedar_fragment.specs.declared.definitions.Fragment.{Fragment};
 ghost use Rattle.cedar_fragment.specs.declared.definitions.NamespaceDefinition.{NamespaceDefinition};
 ghost use Rattle.cedar_json_types.specs.Types.{AttributeShape, Part, attribute_fault, part_fault};
 ghost use Rattle.cedar_json_types.specs.declared.keyed.KeySet.TheVariants as set;
-ghost use Rattle.cedar_json_read.specs.Declarations.{IsAction, IsApplySpec, IsCommonType, IsEntityType, IsParent, action_fault, apply_fault, common_type_fault, entity_fault, parent_fault};
+ghost use Rattle.cedar_json_namespaces.specs.of_json_read.Declarations.{IsAction, IsApplySpec, IsCommonType, IsEntityType, IsParent, action_fault, apply_fault, common_type_fault, entity_fault, parent_fault};
 ghost use Rattle.cedar_json_namespaces.specs.Namespaces.{IsFragment, IsNamespace, fragment_fault, namespace_fault};
 
 /// A law of shapes and faults: a value that has the shape of a structure has no fault as one. So a value is refused as a

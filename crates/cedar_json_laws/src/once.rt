@@ -14,7 +14,7 @@ ghost use Rattle.cedar_fragment.specs.declared.definitions.Fragment.{Fragment};
 ghost use Rattle.cedar_fragment.specs.declared.definitions.NamespaceDefinition.{NamespaceDefinition};
 ghost use Rattle.cedar_json_types.specs.Types.{AttributeShape, Part};
 ghost use Rattle.cedar_json_types.specs.declared.keyed.KeySet.TheVariants as set;
-ghost use Rattle.cedar_json_read.specs.Declarations.{IsAction, IsApplySpec, IsCommonType, IsEntityType, IsParent};
+ghost use Rattle.cedar_json_namespaces.specs.of_json_read.Declarations.{IsAction, IsApplySpec, IsCommonType, IsEntityType, IsParent};
 ghost use Rattle.cedar_json_namespaces.specs.Namespaces.{IsFragment, IsNamespace};
 
 /// A law of shapes: a value has the shape of at most one structure of each kind. It does nothing when it runs.

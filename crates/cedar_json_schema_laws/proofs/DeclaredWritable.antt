@@ -9,7 +9,7 @@ use Rattle.cedar_fragment.specs.declared.definitions.Fragment as held
 use Rattle.cedar_grammar.proofs.Read.{read_as_read}
 use Rattle.cedar_convert_fragment.specs.Fragments.{Declared, Fragment, TypeAt}
 use Rattle.cedar_convert_fragment.specs.Views.{fragment_seen}
-use Rattle.cedar_convert_text.specs.Texts.{DeclaresText}
+use Rattle.cedar_schema_json.specs.of_convert_text.Texts.{DeclaresText}
 use Rattle.cedar_convert_warnings.specs.declared.warnings.SchemaWarning.{SchemaWarning}
 use Rattle.cedar_duplicates.specs.Duplicates.{same_declared}
 use Rattle.cedar_fragment_world.specs.FragmentWorlds.{world_of_fragment}

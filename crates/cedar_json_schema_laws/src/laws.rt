@@ -1,7 +1,7 @@
 // SPDX-License-Identifier: Apache-2.0
 ghost use Rattle.std.specs.Prelude.{◌≡◌, ℕ, List};
 ghost use Rattle.cedar_convert_fragment.specs.Views.{fragment_seen};
-ghost use Rattle.cedar_convert_text.specs.Texts.{DeclaresText};
+ghost use Rattle.cedar_schema_json.specs.of_convert_text.Texts.{DeclaresText};
 ghost use Rattle.cedar_convert_warnings.specs.declared.warnings.SchemaWarning.{SchemaWarning};
 ghost use Rattle.cedar_fragment.specs.ActionUids.{over_raw};
 ghost use Rattle.cedar_fragment.specs.declared.definitions.Fragment.{Fragment};

@@ -9,7 +9,7 @@ use Rattle.cedar_declared.specs.Names.{Names}
 use Rattle.cedar_declared.specs.Targets.{found_action, or_refused, parent_type, resolving, undeclared_action}
 use Rattle.cedar_fragment.specs.ActionUids.{type_in}
 use Rattle.cedar_names.specs.declared.internal_name.InternalName.{InternalName}
-use Rattle.cedar_schema_error.specs.declared.schema_error.SchemaError.{SchemaError}
+use Rattle.cedar_declared.specs.of_schema_error.declared.schema_error.SchemaError.{SchemaError}
 use Rattle.cedar_written.specs.Answers.{Answers}
 use Rattle.cedar_written.specs.Reference.{parent}
 use Rattle.cedar_written.specs.declared.conditional_name.ConditionalName.{ConditionalName}

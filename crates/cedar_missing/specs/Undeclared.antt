@@ -6,18 +6,18 @@ use Rattle.std.specs.Option.{is_none}
 use Rattle.cedar_data.specs.Maps.{map_values}
 use Rattle.cedar_names.specs.Components.{components, has_cedar}
 use Rattle.cedar_names.specs.declared.internal_name.InternalName.{InternalName}
-use Rattle.cedar_definitions.specs.declared.structures.ActionFragment.{ActionFragment}
-use Rattle.cedar_definitions.specs.declared.structures.EntityTypeFragment.{EntityTypeFragment}
-use Rattle.cedar_definitions.specs.declared.structures.EntityTypeFragment.TheVariants.{Standard, Enum}
-use Rattle.cedar_definitions.specs.declared.structures.ValidatorApplySpec.{ValidatorApplySpec}
-use Rattle.cedar_definitions.specs.declared.structures.ValidatorNamespaceDef.{ValidatorNamespaceDef}
+use Rattle.cedar_declared.specs.of_definitions.declared.structures.ActionFragment.{ActionFragment}
+use Rattle.cedar_declared.specs.of_definitions.declared.structures.EntityTypeFragment.{EntityTypeFragment}
+use Rattle.cedar_declared.specs.of_definitions.declared.structures.EntityTypeFragment.TheVariants.{Standard, Enum}
+use Rattle.cedar_declared.specs.of_definitions.declared.structures.ValidatorApplySpec.{ValidatorApplySpec}
+use Rattle.cedar_declared.specs.of_definitions.declared.structures.ValidatorNamespaceDef.{ValidatorNamespaceDef}
 use Rattle.cedar_declared.specs.Names.{Names}
 use Rattle.cedar_declared.specs.Targets.{found, found_action, parent_type}
 use Rattle.cedar_fragment.specs.ActionUids.{over_conditional, type_in}
 use Rattle.cedar_fragment.specs.declared.action_uid.ActionEntityUID.{ActionEntityUID}
 use Rattle.cedar_fragment.specs.declared.attributes_or_context.AttributesOrContext.{AttributesOrContext}
-use Rattle.cedar_schema_error.specs.declared.schema_error.SchemaError.{SchemaError}
-use Rattle.cedar_schema_error.specs.declared.schema_error.SchemaError.TheVariants as error
+use Rattle.cedar_declared.specs.of_schema_error.declared.schema_error.SchemaError.{SchemaError}
+use Rattle.cedar_declared.specs.of_schema_error.declared.schema_error.SchemaError.TheVariants as error
 use Rattle.cedar_written.specs.Possibilities.{leading}
 use Rattle.cedar_written.specs.Reference.{Reference, named, parent}
 use Rattle.cedar_written.specs.References.{Refs, references, references_of_attribute}

@@ -1,7 +1,7 @@
 // SPDX-License-Identifier: Apache-2.0
 ghost use Rattle.std.specs.Prelude.{◌≡◌, fold, IfOk};
 ghost use Rattle.cedar_declared.specs.Held.{names_of};
-ghost use Rattle.cedar_definitions.specs.Structures.{definitions_of};
+ghost use Rattle.cedar_declared.specs.of_definitions.Structures.{definitions_of};
 ghost use Rattle.cedar_missing.specs.Undeclared.{missing_in_action, missing_in_apply, missing_in_common, missing_in_definition, missing_in_each, missing_in_entity, missing_in_values, missing_parts, no_missing, or_else, with_missing};
 
 use crate::missing::{Missing, push_all};

@@ -1,4 +1,7 @@
 -- SPDX-License-Identifier: Apache-2.0
+pub mod of_world
+pub mod of_unfold
+pub mod of_schema_error
 pub mod of_sound
 pub mod of_resolved
 pub mod of_qualified

@@ -3,7 +3,7 @@
 use Rattle.std.proofs.Common.{◌≡◌, ℕ, Bool, true, false, if◌then◌else◌, List, decimal, Option, Some, None, refl, ap}
 use Rattle.std.specs.declared.result.Result.TheVariants.{Ok, Err}
 use Rattle.cedar_schema_error.specs.FullNames.{FullName, Uid}
-use Rattle.cedar_world.specs.Schemas.{SchemaAction}
+use Rattle.cedar_conform.specs.of_world.Schemas.{SchemaAction}
 use Rattle.cedar_conform.specs.Checks.{Check, under}
 use Rattle.cedar_conform.proofs.CheckLaws.{pass-under, under-pass}
 use Rattle.cedar_request.specs.RequestChecks.{RequestCheck, action_as, at_place, has_type, of_value, type_check}

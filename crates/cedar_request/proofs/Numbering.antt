@@ -16,7 +16,7 @@ use Rattle.std.specs.declared.cmp.Ordering.TheVariants.{Less, Equal, Greater}
 use Rattle.cedar_names.proofs.NameOrder.{words_cmp-equal}
 use Rattle.cedar_names.specs.Order.{word_cmp, words_cmp}
 use Rattle.cedar_schema_error.specs.FullNames.{FullName, Uid, uid_cmp}
-use Rattle.cedar_world.specs.Schemas.{Schema, SchemaAction}
+use Rattle.cedar_conform.specs.of_world.Schemas.{Schema, SchemaAction}
 use Rattle.cedar_request.proofs.Elements.{get-left, get-right}
 use Rattle.cedar_request.specs.Numbers.{number, place_among, place_in, size_before, size_of}
 use Rattle.cedar_request.specs.RequestChecks.{declared_action, has_type}

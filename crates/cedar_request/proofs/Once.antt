@@ -8,7 +8,7 @@ use Rattle.std.specs.List.{count_by, flat_map}
 use Rattle.cedar_names.specs.Names.{entity_cmp, entity_words}
 use Rattle.cedar_names.specs.declared.entity_uid.EntityUID.{EntityUID}
 use Rattle.cedar_names.specs.declared.name.EntityType.{EntityType}
-use Rattle.cedar_phases.specs.SchemaViews.{action_in, action_of, schema_in}
+use Rattle.cedar_conform.specs.of_phases.SchemaViews.{action_in, action_of, schema_in}
 use Rattle.cedar_resolved.specs.Environments as resolved
 use Rattle.cedar_resolved.specs.Environments.{applies, applies_to, environment_of, environments_of_all, is_of, one_if, with_principals, with_resources}
 use Rattle.cedar_resolved.specs.Queries.{passes}
@@ -17,7 +17,7 @@ use Rattle.cedar_resolved.specs.declared.action.ValidatorActionId.{ValidatorActi
 use Rattle.cedar_resolved.specs.declared.schema.ValidatorSchema.{ValidatorSchema}
 use Rattle.cedar_schema_error.specs.FullNames.{uid_in}
 use Rattle.cedar_unfold.specs.ResolvedViews.{resolved as type_seen}
-use Rattle.cedar_world.specs.Schemas.{Schema, SchemaAction}
+use Rattle.cedar_conform.specs.of_world.Schemas.{Schema, SchemaAction}
 use Rattle.cedar_request.proofs.Actions.{action-found, type-among}
 use Rattle.cedar_request.proofs.Elements.{one-counted, one-place}
 use Rattle.cedar_request.proofs.Numbering.{at-name, at-uid}

@@ -6,7 +6,7 @@ use Rattle.cedar_written.specs.Answers.{and_then}
 use Rattle.serde_json.specs.Data.{Data, Items, no_items, item}
 use Rattle.cedar_json_types.specs.Shapes.{Keyed}
 use Rattle.cedar_schema_error.specs.FullNames.{Uid}
-use Rattle.cedar_world.specs.Schemas.{Schema, SchemaAction, SchemaEntity}
+use Rattle.cedar_conform.specs.of_world.Schemas.{Schema, SchemaAction, SchemaEntity}
 use Rattle.cedar_conform.specs.Checks.{Check, in_array, keys_check, needs, under}
 use Rattle.cedar_conform.specs.Fits.{Fits}
 use Rattle.cedar_conform.specs.References.{At, IsReference, Known}
@@ -15,7 +15,7 @@ use Rattle.cedar_conform.proofs.CheckLaws.{array-pass, at-map, keys-pass, needs-
 use Rattle.cedar_conform.proofs.ReferenceLaws.{known-pass, pass-known, pass-reference, reference-pass}
 use Rattle.cedar_conform.proofs.ValueLaws as types
 use Rattle.cedar_request.proofs.CheckLaws.{action-pass, pass-action, pass-place, pass-type, pass-value, place-pass, type-pass, value-pass}
-use Rattle.cedar_checks.proofs.Steps.{both-pass, then-pass}
+use Rattle.cedar_conform.proofs.of_checks.Steps.{both-pass, then-pass}
 use Rattle.cedar_request.proofs.Numbering.{numbered}
 use Rattle.cedar_request.proofs.Once.{IsOrdered}
 use Rattle.cedar_request.specs.Numbers.{number}

@@ -4,7 +4,7 @@ use Rattle.std.proofs.Common.{◌≡◌, ℕ, ◌+◌, List, [], ◌∷◌, ◌+
 use Rattle.std.specs.declared.result.Result.TheVariants.{Ok, Err}
 use Rattle.cedar_data.specs.declared.memory.Failure.{Failure}
 use Rattle.cedar_written.specs.Answers.{and_then}
-use Rattle.cedar_world.specs.Schemas.{Schema}
+use Rattle.cedar_conform.specs.of_world.Schemas.{Schema}
 use Rattle.serde_json.specs.View.{view, items_view}
 use Rattle.serde_json.specs.declared.value.Value.{Value}
 use Rattle.cedar_request.proofs.Said.{Says-at, Says-refused}

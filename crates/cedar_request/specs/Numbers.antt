@@ -4,7 +4,7 @@ use Rattle.std.specs.Prelude.{ℕ, suc, ◌+◌, ◌*◌, if◌then◌else◌, L
 use Rattle.std.specs.BTreeMap.{is_at}
 use Rattle.cedar_names.specs.Order.{words_cmp}
 use Rattle.cedar_schema_error.specs.FullNames.{FullName, Uid, uid_cmp}
-use Rattle.cedar_world.specs.Schemas.{Schema, SchemaAction}
+use Rattle.cedar_conform.specs.of_world.Schemas.{Schema, SchemaAction}
 
 -- how many of the types stand before the one of this name
 abbrev pub place_among : List FullName → FullName → ℕ

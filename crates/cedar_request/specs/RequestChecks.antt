@@ -12,7 +12,7 @@ use Rattle.cedar_names.specs.Order.{words_cmp}
 use Rattle.serde_json.specs.Data.{Data, Items, no_items, item}
 use Rattle.cedar_written.specs.Answers.{and_then}
 use Rattle.cedar_schema_error.specs.FullNames.{FullName, Uid, uid_cmp}
-use Rattle.cedar_world.specs.Schemas.{Schema, SchemaAction}
+use Rattle.cedar_conform.specs.of_world.Schemas.{Schema, SchemaAction}
 use Rattle.cedar_conform_fault.specs.Flaws.{misfit}
 use Rattle.cedar_conform_fault.specs.declared.fault.Fault.{Fault}
 use Rattle.cedar_conform.specs.Checks.{Check, in_array, keys_check, needs, under}

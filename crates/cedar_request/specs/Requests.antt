@@ -6,7 +6,7 @@ use Rattle.serde_json.specs.Data.{Data, array, Items, no_items, item}
 use Rattle.cedar_json_types.specs.Shapes.{Keyed}
 use Rattle.cedar_schema_error.specs.FullNames.{FullName, Uid}
 use Rattle.cedar_unfold.specs.Resolved.{Resolved}
-use Rattle.cedar_world.specs.Schemas.{Schema, SchemaAction}
+use Rattle.cedar_conform.specs.of_world.Schemas.{Schema, SchemaAction}
 use Rattle.cedar_conform.specs.Fits.{Fits, RefersTo}
 use Rattle.cedar_conform.specs.References.{At, IsReference}
 

@@ -10,6 +10,6 @@ mod parts;
 mod refusing;
 mod requests;
 
-pub use cedar_conform::{Fault, FaultKind, JsonKind};
+pub use cedar_conform::{Fault, FaultKind, JsonKind, conforms_entities};
 pub use fault::RequestFault;
 pub use requests::check_requests;

@@ -14,7 +14,7 @@ use Rattle.cedar_world.specs.Denotes.{Denotes}
 use Rattle.cedar_world.specs.Schemas.{Schema}
 use Rattle.cedar_convert_fragment.specs.Fragments.{Fragment}
 use Rattle.cedar_convert_fragment.specs.Views.{fragment_seen}
-use Rattle.cedar_convert_text.specs.Texts.{DeclaresText}
+use Rattle.cedar_schema.specs.of_convert_text.Texts.{DeclaresText}
 use Rattle.cedar_convert_warnings.specs.declared.warnings.SchemaWarning.{SchemaWarning}
 use Rattle.cedar_fragment_world.specs.FragmentWorlds.{world_of_fragment}
 use Rattle.cedar_schema.specs.Fragments.{SoundFragment}

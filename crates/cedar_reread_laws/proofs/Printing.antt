@@ -19,7 +19,7 @@ use Rattle.cedar_written.specs.CommonTypeIds.{is_reserved_basename}
 use Rattle.cedar_written.specs.declared.raw_name.RawName.{RawName}
 use Rattle.cedar_convert_fragment.specs.Fragments.{Fragment}
 use Rattle.cedar_convert_fragment.specs.Views.{fragment_seen}
-use Rattle.cedar_convert_text.specs.Texts.{DeclaresText}
+use Rattle.cedar_schema.specs.of_convert_text.Texts.{DeclaresText}
 use Rattle.cedar_convert_warnings.specs.Shadowing.{warnings}
 use Rattle.cedar_convert_warnings.specs.declared.warnings.SchemaWarning.{SchemaWarning}
 use Rattle.cedar_fragment_world.specs.FragmentFaults.{fragment_faults}

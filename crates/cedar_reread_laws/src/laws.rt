@@ -2,7 +2,7 @@
 ghost use Rattle.std.specs.Prelude.{◌≡◌, ℕ, List, [], IsUtf8};
 ghost use Rattle.cedar_convert_fragment.specs.Fragments.{Fragment};
 ghost use Rattle.cedar_convert_fragment.specs.Views.{fragment_seen};
-ghost use Rattle.cedar_convert_text.specs.Texts.{DeclaresText};
+ghost use Rattle.cedar_schema.specs.of_convert_text.Texts.{DeclaresText};
 ghost use Rattle.cedar_convert_warnings.specs.declared.warnings.SchemaWarning.{SchemaWarning};
 ghost use Rattle.cedar_fmt.specs.Collisions.{collisions};
 ghost use Rattle.cedar_fragment.specs.ActionUids.{over_raw};

@@ -8,7 +8,7 @@ use Rattle.cedar_resolving_laws.specs.Reordered.{Reordered, with_namespaces}
 use Rattle.cedar_resolving_laws.proofs.Reordering.{flat_reordered, map_reordered}
 use Rattle.cedar_resolving_laws.proofs.Spread.{alike_reordered}
 use Rattle.cedar_resolving_laws.proofs.WorldsReordered.{denotes_alike, sound_alike}
-use Rattle.cedar_sound.specs.Sound.{Sound}
+use Rattle.cedar_phases.specs.of_sound.Sound.{Sound}
 use Rattle.cedar_world.specs.DefinitionViews.{namespace_in}
 use Rattle.cedar_world.specs.Definitions.{Namespace}
 use Rattle.cedar_world.specs.Denotes.{Denotes}

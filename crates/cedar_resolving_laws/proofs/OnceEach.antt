@@ -15,8 +15,8 @@ use Rattle.cedar_duplicates.specs.Duplicates.{Action, CommonType, Declared, Enti
 use Rattle.cedar_names.specs.Order.{words_cmp}
 use Rattle.cedar_resolving_laws.proofs.Reordering.{Each2}
 use Rattle.cedar_schema_error.specs.FullNames.{FullName, Uid, uid_cmp}
-use Rattle.cedar_sound.specs.Sound.{all_declared, declared_in}
-use Rattle.cedar_sound.proofs.NameOrders.{names_exact, uids_exact}
+use Rattle.cedar_phases.specs.of_sound.Sound.{all_declared, declared_in}
+use Rattle.cedar_phases.proofs.of_sound.NameOrders.{names_exact, uids_exact}
 use Rattle.cedar_world.specs.Definitions.{Namespace}
 
 module _ {A : Type 0} (same : A → A → Bool) where

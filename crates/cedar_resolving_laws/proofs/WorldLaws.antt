@@ -5,7 +5,7 @@ use Rattle.cedar_closure.specs.Chains.{Reaches, one, more}
 use Rattle.cedar_declared.specs.Names.{is_declared}
 use Rattle.cedar_names.specs.Components.{has_cedar}
 use Rattle.cedar_schema_error.specs.FullNames.{FullName, Uid, basename, is_qualified}
-use Rattle.cedar_sound.specs.Sound.{Sound}
+use Rattle.cedar_phases.specs.of_sound.Sound.{Sound}
 use Rattle.cedar_world.specs.Descents.{ActionDescendsFrom, DescendsFrom}
 use Rattle.cedar_world.specs.Worlds.{World, own}
 use Rattle.cedar_written.specs.declared.reference_type.ReferenceType.TheVariants.{CommonOrEntity}

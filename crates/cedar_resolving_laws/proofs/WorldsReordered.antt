@@ -14,7 +14,7 @@ use Rattle.cedar_names.specs.Components.{has_cedar}
 use Rattle.cedar_names.specs.Order.{words_cmp}
 use Rattle.cedar_phases.proofs.Agreeing.{same_action_target, same_builtins, same_entity, same_target, shadows_pass}
 use Rattle.cedar_phases.proofs.Chained.{chain_there, set_there}
-use Rattle.cedar_qualified.specs.Agreeing.{AgreeingNames}
+use Rattle.cedar_phases.specs.of_qualified.Agreeing.{AgreeingNames}
 use Rattle.cedar_resolving_laws.specs.Reordered.{DeclareAlike, Reordered, with_namespaces}
 use Rattle.cedar_resolving_laws.proofs.MapsReordered.{map_of_reordered}
 use Rattle.cedar_resolving_laws.proofs.OnceEach.{Apart, actions_each, apart_each, apart_turned, commons_each, entities_each, once_of_apart}
@@ -22,8 +22,8 @@ use Rattle.cedar_resolving_laws.proofs.Reordering.{Each2, any_reordered, each2_r
 use Rattle.cedar_resolving_laws.proofs.Spread.{none_there, told, told_both, told_keys, told_map, with_more}
 use Rattle.cedar_schema_error.specs.FullNames.{FullName, Uid, uid_cmp}
 use Rattle.cedar_schema_error.specs.NameReferences.{ActionReference, NameReference}
-use Rattle.cedar_sound.specs.Sound.{ActionCycles, Duplicates, Passes, References, Sound, UndeclaredTypes, all_declared}
-use Rattle.cedar_sound.proofs.NameOrders.{names_exact, uids_exact}
+use Rattle.cedar_phases.specs.of_sound.Sound.{ActionCycles, Duplicates, Passes, References, Sound, UndeclaredTypes, all_declared}
+use Rattle.cedar_phases.proofs.of_sound.NameOrders.{names_exact, uids_exact}
 use Rattle.cedar_text.specs.Words.{has_word}
 use Rattle.cedar_unfold.specs.Resolved.{Resolved}
 use Rattle.cedar_unfold.specs.Resolved as resolved

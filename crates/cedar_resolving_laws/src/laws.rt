@@ -6,7 +6,7 @@ ghost use Rattle.cedar_names.specs.declared.extensions.Extensions.{Extensions};
 ghost use Rattle.cedar_phases.specs.Holding.{Fragment, world_of};
 ghost use Rattle.cedar_resolving_laws.specs.Reordered.{DeclareAlike, Reordered, with_namespaces};
 ghost use Rattle.cedar_schema_error.specs.FullNames.{FullName, Uid};
-ghost use Rattle.cedar_sound.specs.Sound.{Sound};
+ghost use Rattle.cedar_phases.specs.of_sound.Sound.{Sound};
 ghost use Rattle.cedar_world.specs.Definitions.{Namespace};
 ghost use Rattle.cedar_world.specs.Denotes.{Denotes};
 ghost use Rattle.cedar_world.specs.Schemas.{Schema};

@@ -5,9 +5,8 @@ ghost use Rattle.cedar_resolved.specs.Environments.{applies};
 use cedar_data::{Failure, Mem, NoMemory, Out};
 use cedar_names::{EntityType, EntityUID, NameFault};
 use cedar_resolved::{RequestEnv, ValidatorSchema};
-use cedar_row_schemas::{error_told, schema_of};
+use cedar_row_schemas::{CedarSchemaError, error_told, schema_of};
 use cedar_row_trees::line_of;
-use cedar_schema_errors::CedarSchemaError;
 use std::alloc::Global;
 
 /// Whether the schema knows such a request: the action applies to the principal's type and to the resource's.

@@ -9,11 +9,9 @@ mod queried_actions;
 mod queried_schemas;
 mod queried_types;
 
+pub use cedar_row_schemas::{CedarSchemaError, FragmentText, FromFragment, add_attributes, add_view, error_told, schema_of};
 pub use bracketed::Bracketed;
 use cedar_data::Mem;
-pub use cedar_row_schemas::{
-    FragmentText, FromFragment, add_attributes, add_view, error_told, schema_of,
-};
 pub use checking::checked;
 pub use made_schemas::made_queries;
 pub use queried_actions::types_told;

@@ -5,9 +5,8 @@ use crate::queried_types::{add_type_lookup, add_types};
 use cedar_data::{Dup, Failure, Mem, NoMemory, Out};
 use cedar_names::{EntityType, EntityUID};
 use cedar_resolved::{Entity, RequestEnv, ValidatorSchema};
-use cedar_row_schemas::{error_told, schema_of};
+use cedar_row_schemas::{CedarSchemaError, error_told, schema_of};
 use cedar_row_trees::Lines;
-use cedar_schema_errors::CedarSchemaError;
 use std::alloc::Global;
 
 /// What the queries of the schema give that the input denotes, those by name for each of its names and for each word; or

@@ -1,10 +1,9 @@
 // SPDX-License-Identifier: Apache-2.0
 use cedar_data::{Boxed, Failure, Mem, NoMemory};
 use cedar_names::NonEmpty;
-use cedar_row_queries::{error_told, schema_of};
+use cedar_row_queries::{CedarSchemaError, error_told, schema_of};
 use cedar_row_trees::line_of;
 use cedar_schema_error::SchemaError;
-use cedar_schema_errors::CedarSchemaError;
 use std::alloc::Global;
 
 /// What is said of the one error of all errors with which the texts are refused that the input is, apart by lines `---`.

@@ -3,8 +3,7 @@ use cedar_data::{Dup, Failure, Mem, Out};
 use cedar_fragment::{Fragment, NamespaceDefinition, RawName};
 use cedar_names::Extensions;
 use cedar_resolved::ValidatorSchema;
-use cedar_row_queries::{FragmentText, FromFragment, made_told};
-use cedar_schema_errors::CedarSchemaError;
+use cedar_row_queries::{CedarSchemaError, FragmentText, FromFragment, made_told};
 use std::alloc::Global;
 
 /// What the queries of the schema give that the namespace without a name of the input denotes by itself; or what is

@@ -4,7 +4,7 @@ use cedar_data::{Failure, Mem, NoMemory, Out};
 use cedar_resolved::{ValidatorActionId, ValidatorEntityType, ValidatorSchema};
 use cedar_row_calls::printing;
 use cedar_row_trees::Lines;
-use cedar_schema_errors::CedarSchemaError;
+use cedar_schema::CedarSchemaError;
 use cedar_types::{OpenTag, TypeView};
 use std::alloc::Global;
 

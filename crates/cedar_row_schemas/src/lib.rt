@@ -10,7 +10,7 @@ mod schema_errors;
 mod values;
 
 use cedar_data::Mem;
-pub use cedar_schema::{FragmentText, FromFragment};
+pub use cedar_schema::{CedarSchemaError, FragmentText, FromFragment};
 pub use copied_schemas::schema_copies;
 pub use hand_built::beside;
 pub use lists::several;

@@ -2,8 +2,7 @@
 use cedar_data::{Failure, Mem, NoMemory, Out};
 use cedar_resolved::ValidatorSchema;
 use cedar_row_trees::{Lines, line_of};
-use cedar_schema::FromCedarSchema;
-use cedar_schema_errors::CedarSchemaError;
+use cedar_schema::{CedarSchemaError, FromCedarSchema};
 use std::alloc::Global;
 
 /// What the calls of the error say with which a text is refused.

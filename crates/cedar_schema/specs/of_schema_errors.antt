@@ -1,3 +1,4 @@
 -- SPDX-License-Identifier: Apache-2.0
 -- What the crates above cite of `cedar_schema_errors`.
+pub use Rattle.cedar_schema_errors.specs.ErrorTexts
 pub mod declared

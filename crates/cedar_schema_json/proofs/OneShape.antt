@@ -7,7 +7,7 @@ use Rattle.cedar_json.specs.TextFaults.{IsFragmentText, advised, advice_for, adv
 use Rattle.cedar_json_laws.proofs.CleanDeclarations.{fragment_clean}
 use Rattle.cedar_json_laws.proofs.OnceDeclarations.{fragment_once}
 use Rattle.cedar_json_laws.proofs.OnceParts.{same_inside}
-use Rattle.cedar_json_namespaces.specs.Namespaces.{IsFragment, fragment_fault}
+use Rattle.cedar_json_laws.specs.of_json_namespaces.Namespaces.{IsFragment, fragment_fault}
 use Rattle.cedar_json_types.specs.Faults.{first}
 use Rattle.cedar_written.specs.declared.raw_name.RawName.{RawName}
 

@@ -8,7 +8,7 @@ use Rattle.cedar_data.specs.declared.memory.Failure.{Failure}
 use Rattle.cedar_data.specs.declared.memory.Failure.TheVariants.{Refused, NoMemory}
 use Rattle.cedar_fragment.specs.ActionUids.{over_raw}
 use Rattle.cedar_fragment.specs.declared.definitions.Fragment.{Fragment}
-use Rattle.cedar_fragment_world.specs.FragmentWorlds.{world_of_fragment}
+use Rattle.cedar_schema.specs.of_fragment_world.FragmentWorlds.{world_of_fragment}
 use Rattle.cedar_json_fault.specs.declared.json_error.JsonDeserializationError.{JsonDeserializationError}
 use Rattle.cedar_json_laws.proofs.OnceParts.{same_inside}
 use Rattle.cedar_json_types.specs.Faults.{Fault}
@@ -20,8 +20,8 @@ use Rattle.cedar_schema_error.specs.declared.schema_error.SchemaError.{SchemaErr
 use Rattle.cedar_schema_error.specs.declared.schema_error.SchemaError.TheVariants.{JsonDeserialization}
 use Rattle.cedar_schema_json.specs.JsonSchemas.{DenotesSchema, IsWellFormed, JsonCause, unread}
 use Rattle.cedar_schema.proofs.OneSchema.{one_schema}
-use Rattle.cedar_world.specs.Denotes.{Denotes}
-use Rattle.cedar_world.specs.Schemas.{Schema}
+use Rattle.cedar_schema.specs.of_world.Denotes.{Denotes}
+use Rattle.cedar_schema.specs.of_world.Schemas.{Schema}
 use Rattle.cedar_written.specs.declared.raw_name.RawName.{RawName}
 
 module _ (Shapes : Fragment RawName over_raw → Type 0) (fault : Fault) (extensions : List (List ℕ)) where

@@ -7,7 +7,7 @@ use Rattle.cedar_data.specs.declared.memory.Failure.{Failure}
 use Rattle.cedar_data.specs.declared.memory.Failure.TheVariants.{Refused, NoMemory}
 use Rattle.cedar_fragment.specs.ActionUids.{over_raw}
 use Rattle.cedar_fragment.specs.declared.definitions.Fragment.{Fragment}
-use Rattle.cedar_fragment_world.specs.FragmentWorlds.{world_of_fragment}
+use Rattle.cedar_schema.specs.of_fragment_world.FragmentWorlds.{world_of_fragment}
 use Rattle.cedar_json_fault.specs.declared.json_error.JsonDeserializationError.{JsonDeserializationError}
 use Rattle.cedar_json_types.specs.Faults.{Fault}
 use Rattle.cedar_schema.specs.Fragments.{FragmentCause, SoundFragment}
@@ -15,8 +15,8 @@ use Rattle.cedar_schema_error.specs.Told.{told}
 use Rattle.cedar_schema_error.specs.declared.action_behavior.ActionBehavior.TheVariants.{ProhibitAttributes}
 use Rattle.cedar_schema_error.specs.declared.schema_error.SchemaError.{SchemaError}
 use Rattle.cedar_schema_error.specs.declared.schema_error.SchemaError.TheVariants.{JsonDeserialization}
-use Rattle.cedar_world.specs.Denotes.{Denotes}
-use Rattle.cedar_world.specs.Schemas.{Schema}
+use Rattle.cedar_schema.specs.of_world.Denotes.{Denotes}
+use Rattle.cedar_schema.specs.of_world.Schemas.{Schema}
 use Rattle.cedar_written.specs.declared.raw_name.RawName.{RawName}
 
 -- it has the shape of a fragment that is sound

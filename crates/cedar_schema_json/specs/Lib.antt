@@ -1,4 +1,9 @@
 -- SPDX-License-Identifier: Apache-2.0
+pub mod of_world
+pub mod of_schema_errors
+pub mod of_json
+pub mod of_fragment_world
+pub mod of_convert_text
 pub use Rattle.cedar_schema.specs.Fragments
 pub use Rattle.cedar_schema.specs.Texts
 pub use Rattle.cedar_schema.specs.SchemaViews

@@ -4,11 +4,11 @@ ghost use Rattle.serde_json.specs.Data.{Data};
 ghost use Rattle.cedar_fragment.specs.ActionUids.{over_raw};
 ghost use Rattle.cedar_fragment.specs.declared.definitions.Fragment.{Fragment};
 ghost use Rattle.cedar_json.specs.TextFaults.{IsFragmentText, advised_fault};
-ghost use Rattle.cedar_json_namespaces.specs.Namespaces.{IsFragment, fragment_fault};
+ghost use Rattle.cedar_json_laws.specs.of_json_namespaces.Namespaces.{IsFragment, fragment_fault};
 ghost use Rattle.cedar_schema_error.specs.Told.{told};
 ghost use Rattle.cedar_schema_error.specs.declared.schema_error.SchemaError.{SchemaError};
 ghost use Rattle.cedar_schema_json.specs.JsonSchemas.{DenotesSchema, IsWellFormed, JsonCause};
-ghost use Rattle.cedar_world.specs.Schemas.{Schema};
+ghost use Rattle.cedar_schema.specs.of_world.Schemas.{Schema};
 ghost use Rattle.cedar_written.specs.declared.raw_name.RawName.{RawName};
 
 /// A law: a value or a text that is well formed as a schema in JSON is not refused. It does nothing when it runs.

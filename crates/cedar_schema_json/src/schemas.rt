@@ -5,13 +5,13 @@ ghost use Rattle.cedar_convert_fragment.specs.Views.{fragment_seen};
 ghost use Rattle.cedar_data.specs.Answers.{Accepts, IfRefused};
 ghost use Rattle.cedar_fragment.specs.ActionUids.{over_raw};
 ghost use Rattle.cedar_fragment.specs.declared.definitions.Fragment.{Fragment as Shaped};
-ghost use Rattle.cedar_fragment_world.specs.FragmentWorlds.{world_of_fragment};
+ghost use Rattle.cedar_schema.specs.of_fragment_world.FragmentWorlds.{world_of_fragment};
 ghost use Rattle.cedar_json.specs.TextFaults.{IsFragmentText, advised_fault};
-ghost use Rattle.cedar_json_namespaces.specs.Namespaces.{IsFragment, fragment_fault};
+ghost use Rattle.cedar_json_laws.specs.of_json_namespaces.Namespaces.{IsFragment, fragment_fault};
 ghost use Rattle.cedar_names.specs.Extensions.{extension_words};
 ghost use Rattle.cedar_schema.specs.SchemaViews.{IsNamed, schema_in};
 ghost use Rattle.cedar_schema_json.specs.JsonSchemas.{DenotesSchema, IsWellFormed, JsonCause, unread};
-ghost use Rattle.cedar_world.specs.Denotes.{Denotes};
+ghost use Rattle.cedar_schema.specs.of_world.Denotes.{Denotes};
 ghost use Rattle.cedar_written.specs.declared.raw_name.RawName.{RawName as Raw};
 
 use cedar_data::{Failure, Out};

@@ -1,4 +1,6 @@
 -- SPDX-License-Identifier: Apache-2.0
+pub mod of_names
+pub mod of_data
 pub use Rattle.cedar_print.specs.of_text.FaultTexts
 pub use Rattle.cedar_print.specs.of_names.Identifiers
 pub mod Answers

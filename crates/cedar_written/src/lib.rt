@@ -18,10 +18,7 @@ mod type_copies;
 mod walk;
 mod walked;
 
-pub use cedar_print::{
-    Dup, Items, Mem, NameFault, Quoted, Span, Text, UnreservedId, write_annotations, write_item,
-    write_list, write_quoted_list,
-};
+pub use cedar_print::{Dup, EntityType, EntityUID, InternalName, Items, Loc, Map, MapKeys, Mem, NameFault, NonEmpty, Quoted, Set, SetIter, Span, Text, UnreservedId, dup_four, dup_three, dup_two, write_annotations, write_item, write_list, write_quoted_list};
 pub use common_type_id::{CommonTypeId, ReservedCommonTypeBasenameError};
 pub use conditional_name::ConditionalName;
 pub use laws::types_are_walked_in_order;

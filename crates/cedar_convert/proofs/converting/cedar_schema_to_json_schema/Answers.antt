@@ -7,7 +7,7 @@ use Rattle.cedar_convert_errors.specs.Texts.{fault_list}
 use Rattle.cedar_convert_faults.specs.Faults.{faults_of}
 use Rattle.cedar_convert_faults.specs.Gathering.{gathered_tree}
 use Rattle.cedar_convert_warnings.specs.Shadowing.{shadows}
-use Rattle.cedar_convert_fragment.specs.Views.{fragment_seen}
+use Rattle.cedar_convert_namespaces.specs.of_convert_fragment.Views.{fragment_seen}
 use Rattle.cedar_convert.proofs.Wholes.{accepts_from, declares_from}
 use Rattle.cedar_convert.proofs.converting.cedar_schema_to_json_schema.Goals as goal
 

@@ -2,8 +2,8 @@
 use Rattle.std.proofs.Common.{◌≡◌, ◌++◌, map}
 use Rattle.std.specs.Vec.Iter.{into_iter_items}
 use Rattle.cedar_tree.specs.Meanings.{annotated_tree, decl_tree, node_of}
-use Rattle.cedar_convert_fragment.specs.Declares.{actions, commons, entities, given}
-use Rattle.cedar_convert_fragment.specs.Views.{actions_seen, commons_seen, entities_seen}
+use Rattle.cedar_convert_declarations.specs.of_convert_fragment.Declares.{actions, commons, entities, given}
+use Rattle.cedar_convert_declarations.specs.of_convert_fragment.Views.{actions_seen, commons_seen, entities_seen}
 use Rattle.cedar_convert_namespaces.proofs.namespaces.definition_declared.Given as goal
 
 -- what was declared so far, with what the rest declares, is all

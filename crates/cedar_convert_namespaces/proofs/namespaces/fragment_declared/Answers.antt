@@ -1,7 +1,7 @@
 -- SPDX-License-Identifier: Apache-2.0
 use Rattle.std.proofs.Common.{map, refl}
-use Rattle.cedar_convert_faults.specs.Gathering.{gathered_tree}
-use Rattle.cedar_convert_fragment.specs.Declares.{declared_by}
+use Rattle.cedar_convert_declarations.specs.of_convert_faults.Gathering.{gathered_tree}
+use Rattle.cedar_convert_declarations.specs.of_convert_fragment.Declares.{declared_by}
 use Rattle.cedar_convert_namespaces.proofs.Declaring.{fragment-made}
 use Rattle.cedar_convert_namespaces.proofs.namespaces.fragment_declared.Goals as goal
 

@@ -3,11 +3,11 @@ use Rattle.std.proofs.Common.{◌≡◌, Global, Vec}
 use Rattle.cedar_fragment.specs.ActionUids.{over_raw}
 use Rattle.cedar_fragment.specs.declared.definitions.Fragment.{Fragment}
 use Rattle.cedar_written.specs.declared.raw_name.RawName.{RawName}
-use Rattle.cedar_convert_warnings.specs.declared.warnings.SchemaWarning.{SchemaWarning}
+use Rattle.cedar_convert.specs.of_convert_warnings.declared.warnings.SchemaWarning.{SchemaWarning}
 use Rattle.cedar_names.specs.Extensions.{extension_words}
 use Rattle.cedar_tree.specs.Meanings.{schema_tree}
-use Rattle.cedar_convert_fragment.specs.Views.{fragment_seen}
-use Rattle.cedar_convert_faults.specs.Faults.{schema_faults}
+use Rattle.cedar_convert.specs.of_convert_fragment.Views.{fragment_seen}
+use Rattle.cedar_convert.specs.of_convert_faults.Faults.{schema_faults}
 use Rattle.cedar_convert_text.specs.Texts.{AreFaults}
 use Rattle.cedar_convert_text.proofs.Wholes.{also_accepted, declared_too, declares_text, faults_too, no_refusal, tells_text}
 use Rattle.cedar_convert_text.proofs.parsing.parse_cedar_schema_fragment.Goals as goal

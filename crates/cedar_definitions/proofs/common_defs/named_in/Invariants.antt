@@ -2,8 +2,8 @@
 use Rattle.std.proofs.Common.{◌≡◌, fold}
 use Rattle.std.specs.BTreeMap.{insert_entry}
 use Rattle.std.specs.Option.{option_copied}
-use Rattle.cedar_data.specs.Maps.{map_of}
-use Rattle.cedar_names.specs.Names.{internal_cmp}
+use Rattle.cedar_written.specs.of_data.Maps.{map_of}
+use Rattle.cedar_written.specs.of_names.Names.{internal_cmp}
 use Rattle.cedar_definitions.specs.CommonDefs.{named_types}
 use Rattle.cedar_definitions.proofs.common_defs.named_in.Given as goal
 

@@ -2,7 +2,7 @@
 use Rattle.cedar_json.specs.TextFaults.{IsFragmentText, advised_fault}
 use Rattle.cedar_json_laws.proofs.CleanDeclarations.{fragment_clean}
 use Rattle.cedar_json_laws.proofs.OnceDeclarations.{fragment_once}
-use Rattle.cedar_json_namespaces.specs.Namespaces.{IsFragment, fragment_fault}
+use Rattle.cedar_json_laws.specs.of_json_namespaces.Namespaces.{IsFragment, fragment_fault}
 use Rattle.cedar_schema_json.proofs.OneShape.{text_clean, text_once}
 use Rattle.cedar_schema_json.proofs.Reading.{well_formed_or_refused}
 use Rattle.cedar_schema_json.proofs.laws.well_formed_json_or_refused.Goals as goal

@@ -1,7 +1,7 @@
 -- SPDX-License-Identifier: Apache-2.0
 use Rattle.std.proofs.Common.{◌≡◌}
 use Rattle.std.specs.List.{find}
-use Rattle.cedar_text.specs.Lists.{elements_left}
+use Rattle.cedar_names.specs.of_text.Lists.{elements_left}
 use Rattle.cedar_declared.specs.Held.{names_of}
 use Rattle.cedar_declared.specs.Names.{is_action}
 use Rattle.cedar_declared.specs.Targets.{action_at, found_action}

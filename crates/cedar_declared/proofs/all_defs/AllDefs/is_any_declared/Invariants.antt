@@ -2,7 +2,7 @@
 use Rattle.std.proofs.Common.{◌≡◌}
 use Rattle.std.specs.List.{find}
 use Rattle.cedar_names.specs.Components.{components}
-use Rattle.cedar_text.specs.Lists.{elements_left}
+use Rattle.cedar_names.specs.of_text.Lists.{elements_left}
 use Rattle.cedar_declared.specs.Held.{names_of}
 use Rattle.cedar_declared.specs.Names.{is_declared}
 use Rattle.cedar_declared.proofs.all_defs.AllDefs.is_any_declared.Given as goal

@@ -2,14 +2,14 @@
 use Rattle.cedar_convert_fragment.specs.Views.{fragment_seen}
 use Rattle.cedar_fragment.specs.ActionUids.{over_raw}
 use Rattle.cedar_fragment.specs.declared.definitions.Fragment.{Fragment}
-use Rattle.cedar_fragment_world.specs.FragmentWorlds.{world_of_fragment}
+use Rattle.cedar_schema.specs.of_fragment_world.FragmentWorlds.{world_of_fragment}
 use Rattle.cedar_json.specs.TextFaults.{IsFragmentText, advised_fault}
 use Rattle.cedar_names.specs.Extensions.{extension_words}
 use Rattle.cedar_schema.specs.SchemaViews.{schema_in}
 use Rattle.cedar_resolved.specs.declared.schema.ValidatorSchema.{ValidatorSchema}
 use Rattle.cedar_schema_json.proofs.OneShape.{text_clean, text_once}
 use Rattle.cedar_schema_json.proofs.Reading.{accepts_read, accepts_unread, denotes_read, refused_read}
-use Rattle.cedar_world.specs.Denotes.{Denotes}
+use Rattle.cedar_schema.specs.of_world.Denotes.{Denotes}
 use Rattle.cedar_written.specs.declared.raw_name.RawName.{RawName}
 use Rattle.cedar_schema_json.proofs.schemas.ValidatorSchemaSchemaJson.from_json_str.Goals as goal
 

@@ -1,0 +1,3 @@
+-- SPDX-License-Identifier: Apache-2.0
+-- What the crates above cite of `cedar_world`.
+pub use Rattle.cedar_checks.specs.of_world.Schemas

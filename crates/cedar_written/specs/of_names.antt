@@ -1,0 +1,6 @@
+-- SPDX-License-Identifier: Apache-2.0
+-- What the crates above cite of `cedar_names`.
+pub use Rattle.cedar_print.specs.of_names.Components
+pub use Rattle.cedar_print.specs.of_names.Identifiers
+pub use Rattle.cedar_print.specs.of_names.Names
+pub mod declared
