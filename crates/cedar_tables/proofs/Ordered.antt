@@ -8,11 +8,11 @@ use Rattle.std.specs.Map.{keys_of}
 use Rattle.std.specs.declared.cmp.Ordering.{Ordering}
 use Rattle.std.specs.declared.cmp.Ordering.TheVariants.{Less}
 use Rattle.cedar_data.specs.Maps.{IsSortedMap}
-use Rattle.cedar_world.specs.of_declared.Gathering.{action_cmp}
+use Rattle.cedar_declared.specs.Gathering.{action_cmp}
 use Rattle.cedar_names.specs.Names.{entity_cmp}
 use Rattle.cedar_names.specs.declared.entity_uid.EntityUID.{EntityUID}
 use Rattle.cedar_names.specs.declared.name.EntityType.{EntityType}
-use Rattle.cedar_world.specs.of_schema_error.declared.use_place.UsePlace.TheVariants.{Shape, Tags, Context}
+use Rattle.cedar_meaning.specs.of_schema_error.declared.use_place.UsePlace.TheVariants.{Shape, Tags, Context}
 use Rattle.cedar_tables.specs.Declarations.{Action, PlacedEntity}
 use Rattle.cedar_tables.specs.Splits.{Use, all_uses, context_use, fragment_shape, fragment_tags, shape_use, tags_use, use_cmp}
 

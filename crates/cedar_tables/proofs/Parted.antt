@@ -7,7 +7,7 @@ use Rattle.std.specs.List.Sorted.{IsStrictlySortedBy}
 use Rattle.std.specs.Map.{keys_of}
 use Rattle.cedar_data.specs.Maps.{IsSortedMap, map_values}
 use Rattle.cedar_data.proofs.Rebuild.{Rebuilds, Rebuilds-end, Rebuilds-next, Rebuilds-sorted, Rebuilds-start}
-use Rattle.cedar_world.specs.of_declared.Gathering.{action_cmp}
+use Rattle.cedar_declared.specs.Gathering.{action_cmp}
 use Rattle.cedar_names.specs.Names.{entity_cmp}
 use Rattle.cedar_names.specs.declared.entity_uid.EntityUID.{EntityUID}
 use Rattle.cedar_names.specs.declared.name.EntityType.{EntityType}

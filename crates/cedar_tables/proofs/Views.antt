@@ -5,25 +5,25 @@ use Rattle.std.proofs.lemmas.List.{map-append}
 use Rattle.std.specs.List.{flat_map}
 use Rattle.cedar_data.specs.Maps.{map_of, map_values}
 use Rattle.cedar_data.proofs.MapsMade.{map-map_of}
-use Rattle.cedar_world.specs.of_declared.Gathering.{action_cmp}
-use Rattle.cedar_world.specs.of_definitions.declared.structures.EntityTypeFragment.{EntityTypeFragment}
-use Rattle.cedar_world.specs.of_definitions.declared.structures.EntityTypeFragment.TheVariants.{Standard, Enum}
+use Rattle.cedar_declared.specs.Gathering.{action_cmp}
+use Rattle.cedar_declared.specs.of_definitions.declared.structures.EntityTypeFragment.{EntityTypeFragment}
+use Rattle.cedar_declared.specs.of_definitions.declared.structures.EntityTypeFragment.TheVariants.{Standard, Enum}
 use Rattle.cedar_names.specs.Components.{components}
 use Rattle.cedar_names.specs.Names.{entity_cmp, entity_words, internal_cmp}
 use Rattle.cedar_names.specs.Order.{words_cmp}
 use Rattle.cedar_names.specs.declared.entity_uid.EntityUID.{EntityUID}
 use Rattle.cedar_names.specs.declared.internal_name.InternalName.{InternalName}
 use Rattle.cedar_names.specs.declared.name.EntityType.{EntityType}
-use Rattle.cedar_world.specs.of_schema_error.FullNames.{FullName, Uid, uid_cmp, uid_in}
-use Rattle.cedar_world.specs.of_schema_error.NameReferences.{ActionReference, NameReference}
-use Rattle.cedar_world.specs.of_schema_error.Refusals.{UsePlace}
-use Rattle.cedar_world.specs.of_schema_error.Refusals as refusal
-use Rattle.cedar_world.specs.of_schema_error.declared.use_place.UsePlace.TheVariants.{Shape, Tags}
+use Rattle.cedar_meaning.specs.of_schema_error.FullNames.{FullName, Uid, uid_cmp, uid_in}
+use Rattle.cedar_meaning.specs.of_schema_error.NameReferences.{ActionReference, NameReference}
+use Rattle.cedar_meaning.specs.of_schema_error.Refusals.{UsePlace}
+use Rattle.cedar_meaning.specs.of_schema_error.Refusals as refusal
+use Rattle.cedar_meaning.specs.of_schema_error.declared.use_place.UsePlace.TheVariants.{Shape, Tags}
 use Rattle.cedar_text.specs.declared.location.Loc.{Loc}
-use Rattle.cedar_world.specs.of_unfold.Written.{Written}
-use Rattle.cedar_world.specs.DefinitionViews.{action_in, action_of, common_type_in, kind_in, namespace_in, type_in}
-use Rattle.cedar_world.specs.Definitions.{ActionDefinition, EntityDefinition, shape_of, tags_of}
-use Rattle.cedar_world.specs.Worlds.{actions_in, common_types_in, entity_types_in, uses_in}
+use Rattle.cedar_meaning.specs.of_unfolding.Written.{Written}
+use Rattle.cedar_meaning.specs.DefinitionViews.{action_in, action_of, common_type_in, kind_in, namespace_in, type_in}
+use Rattle.cedar_meaning.specs.Definitions.{ActionDefinition, EntityDefinition, shape_of, tags_of}
+use Rattle.cedar_meaning.specs.Worlds.{actions_in, common_types_in, entity_types_in, uses_in}
 use Rattle.cedar_written.specs.declared.conditional_name.ConditionalName.{ConditionalName}
 use Rattle.cedar_written.specs.declared.ty.SchemaType.{SchemaType}
 use Rattle.cedar_tables.specs.Declarations.{Action, Definition, PlacedEntity, action_places, actions_of, common_types_of, entity_places, entity_types_of, fragments_of, placed, placed_in, placed_types}

@@ -1,4 +1,4 @@
 -- SPDX-License-Identifier: Apache-2.0
 -- What the crates above cite of `cedar_declared`.
-pub use Rattle.cedar_world.proofs.of_declared.FoundTargets
-pub use Rattle.cedar_world.proofs.of_declared.Targeted
+pub use Rattle.cedar_declared.proofs.FoundTargets
+pub use Rattle.cedar_declared.proofs.Targeted

@@ -3,20 +3,20 @@
 use Rattle.std.specs.Prelude.{List, Option, map}
 use Rattle.std.specs.List.{flat_map}
 use Rattle.cedar_data.specs.Maps.{get}
-use Rattle.cedar_world.specs.of_definitions.declared.structures.ActionFragment.{ActionFragment}
-use Rattle.cedar_world.specs.of_definitions.declared.structures.EntityTypeFragment.{EntityTypeFragment}
-use Rattle.cedar_world.specs.of_definitions.declared.structures.EntityTypesDef.{EntityTypesDef}
-use Rattle.cedar_world.specs.of_definitions.declared.structures.ValidatorNamespaceDef.{ValidatorNamespaceDef}
+use Rattle.cedar_declared.specs.of_definitions.declared.structures.ActionFragment.{ActionFragment}
+use Rattle.cedar_declared.specs.of_definitions.declared.structures.EntityTypeFragment.{EntityTypeFragment}
+use Rattle.cedar_declared.specs.of_definitions.declared.structures.EntityTypesDef.{EntityTypesDef}
+use Rattle.cedar_declared.specs.of_definitions.declared.structures.ValidatorNamespaceDef.{ValidatorNamespaceDef}
 use Rattle.cedar_fragment.specs.ActionUids.{over_conditional}
 use Rattle.cedar_names.specs.Names.{entity_cmp, entity_words}
 use Rattle.cedar_names.specs.declared.entity_uid.EntityUID.{EntityUID}
 use Rattle.cedar_names.specs.declared.internal_name.InternalName.{InternalName}
 use Rattle.cedar_names.specs.declared.name.EntityType.{EntityType}
-use Rattle.cedar_world.specs.of_schema_error.FullNames.{FullName}
-use Rattle.cedar_world.specs.of_schema_error.NameReferences.{NameReference}
+use Rattle.cedar_meaning.specs.of_schema_error.FullNames.{FullName}
+use Rattle.cedar_meaning.specs.of_schema_error.NameReferences.{NameReference}
 use Rattle.cedar_text.specs.declared.location.Loc.{Loc}
-use Rattle.cedar_world.specs.DefinitionViews.{kind_in}
-use Rattle.cedar_world.specs.Definitions.{EntityDefinition}
+use Rattle.cedar_meaning.specs.DefinitionViews.{kind_in}
+use Rattle.cedar_meaning.specs.Definitions.{EntityDefinition}
 use Rattle.cedar_written.specs.declared.conditional_name.ConditionalName.{ConditionalName}
 use Rattle.cedar_written.specs.declared.ty.SchemaType.{SchemaType}
 use Rattle.cedar_tables.specs.declared.declarations.Placed.{Placed}

@@ -5,18 +5,18 @@ use Rattle.std.specs.Option.{option_map}
 use Rattle.cedar_names.specs.Names.{entity_words}
 use Rattle.cedar_names.specs.declared.entity_uid.EntityUID.{EntityUID}
 use Rattle.cedar_names.specs.declared.name.EntityType.{EntityType}
-use Rattle.cedar_world.specs.of_schema_error.FullNames.{FullName, Uid, uid_in}
-use Rattle.cedar_world.specs.of_schema_error.NameReferences.{ActionReference, NameReference, action_reference_of, reference_of}
-use Rattle.cedar_world.specs.of_schema_error.Refusals.{UsePlace}
-use Rattle.cedar_world.specs.of_schema_error.Told.{told_use}
-use Rattle.cedar_world.specs.of_schema_error.declared.use_place.UsePlace as code
+use Rattle.cedar_meaning.specs.of_schema_error.FullNames.{FullName, Uid, uid_in}
+use Rattle.cedar_meaning.specs.of_schema_error.NameReferences.{ActionReference, NameReference, action_reference_of, reference_of}
+use Rattle.cedar_meaning.specs.of_schema_error.Refusals.{UsePlace}
+use Rattle.cedar_meaning.specs.of_schema_error.Told.{told_use}
+use Rattle.cedar_meaning.specs.of_schema_error.declared.use_place.UsePlace as code
 use Rattle.cedar_text.specs.Lists.{elements}
 use Rattle.cedar_text.specs.declared.location.Loc.{Loc}
 use Rattle.cedar_types.specs.declared.ty.Attributes.{Attributes}
 use Rattle.cedar_types.specs.declared.value.ValueMap.{ValueMap}
-use Rattle.cedar_world.specs.of_unfold.Written.{Written}
-use Rattle.cedar_world.specs.DefinitionViews.{type_in}
-use Rattle.cedar_world.specs.Definitions.{ActionDefinition, EntityDefinition, Enumerated, Standard, parents_of}
+use Rattle.cedar_meaning.specs.of_unfolding.Written.{Written}
+use Rattle.cedar_meaning.specs.DefinitionViews.{type_in}
+use Rattle.cedar_meaning.specs.Definitions.{ActionDefinition, EntityDefinition, Enumerated, Standard, parents_of}
 use Rattle.cedar_written.specs.declared.conditional_name.ConditionalName.{ConditionalName}
 use Rattle.cedar_written.specs.declared.ty.SchemaType.{SchemaType}
 use Rattle.cedar_tables.specs.declared.outlines.ActionOutline.{ActionOutline}

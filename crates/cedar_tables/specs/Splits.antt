@@ -4,15 +4,15 @@ use Rattle.std.specs.Prelude.{◌++◌, List, [], Option, Some, None, option_to_
 use Rattle.std.specs.List.{flat_map}
 use Rattle.std.specs.declared.cmp.Ordering.{Ordering}
 use Rattle.cedar_data.specs.Maps.{map_of}
-use Rattle.cedar_world.specs.of_declared.Gathering.{action_cmp}
-use Rattle.cedar_world.specs.of_definitions.declared.structures.EntityTypeFragment.{EntityTypeFragment}
-use Rattle.cedar_world.specs.of_definitions.declared.structures.EntityTypeFragment.TheVariants.{Standard, Enum}
+use Rattle.cedar_declared.specs.Gathering.{action_cmp}
+use Rattle.cedar_declared.specs.of_definitions.declared.structures.EntityTypeFragment.{EntityTypeFragment}
+use Rattle.cedar_declared.specs.of_definitions.declared.structures.EntityTypeFragment.TheVariants.{Standard, Enum}
 use Rattle.cedar_names.specs.Names.{entity_cmp}
 use Rattle.cedar_names.specs.declared.entity_uid.EntityUID.{EntityUID}
 use Rattle.cedar_names.specs.declared.name.EntityType.{EntityType}
-use Rattle.cedar_world.specs.of_schema_error.contracts.use_place.UsePlaceOrd.TheImpl as order
-use Rattle.cedar_world.specs.of_schema_error.declared.use_place.UsePlace.{UsePlace}
-use Rattle.cedar_world.specs.of_schema_error.declared.use_place.UsePlace.TheVariants.{Shape, Tags, Context}
+use Rattle.cedar_meaning.specs.of_schema_error.contracts.use_place.UsePlaceOrd.TheImpl as order
+use Rattle.cedar_meaning.specs.of_schema_error.declared.use_place.UsePlace.{UsePlace}
+use Rattle.cedar_meaning.specs.of_schema_error.declared.use_place.UsePlace.TheVariants.{Shape, Tags, Context}
 use Rattle.cedar_text.specs.declared.location.Loc.{Loc}
 use Rattle.cedar_written.specs.declared.conditional_name.ConditionalName.{ConditionalName}
 use Rattle.cedar_written.specs.declared.ty.SchemaType.{SchemaType}

@@ -5,9 +5,9 @@ ghost use Rattle.cedar_names.specs.Names.{entity_cmp};
 ghost use Rattle.cedar_tables.specs.Declarations.{actions_of, common_types_of, entity_types_of, placed_by, placed_types};
 
 use cedar_data::{Dup, Map, Mem};
+use cedar_declared::{ActionFragment, EntityTypeFragment, EntityTypesDef, ValidatorNamespaceDef};
 use cedar_names::{EntityType, EntityUID, InternalName};
 use cedar_text::Loc;
-use cedar_world::{ActionFragment, EntityTypeFragment, EntityTypesDef, ValidatorNamespaceDef};
 use cedar_written::{ConditionalName, SchemaType};
 use std::alloc::Global;
 

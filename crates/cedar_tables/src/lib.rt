@@ -9,5 +9,5 @@ mod outlines;
 mod splits;
 
 pub use apart::tables_of;
-pub use cedar_world::AllDefs;
+pub use cedar_declared::AllDefs;
 pub use outlines::{ActionOutline, EntityOutline, Tables};

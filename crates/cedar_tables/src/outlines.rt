@@ -1,8 +1,9 @@
 // SPDX-License-Identifier: Apache-2.0
 use cedar_data::{Map, Set, Text};
+use cedar_declared::{ActionEntityUID, UsePlace, ValidatorApplySpec};
 use cedar_names::{EntityType, EntityUID, InternalName};
 use cedar_text::{Loc, NonEmpty};
-use cedar_world::{ActionEntityUID, Attributes, UsePlace, ValidatorApplySpec, ValueMap};
+use cedar_types::{Attributes, ValueMap};
 use cedar_written::{ConditionalName, SchemaType};
 
 /// An entity type without its types.

@@ -4,16 +4,16 @@ ghost use Rattle.std.specs.List.{flat_map};
 ghost use Rattle.std.specs.List.Sorted.{IsStrictlySortedBy};
 ghost use Rattle.std.specs.Map.{keys_of};
 ghost use Rattle.cedar_data.specs.Maps.{IsSortedMap, map_of, map_values};
-ghost use Rattle.cedar_world.specs.of_declared.Gathering.{action_cmp};
+ghost use Rattle.cedar_declared.specs.Gathering.{action_cmp};
 ghost use Rattle.cedar_names.specs.Names.{entity_cmp};
 ghost use Rattle.cedar_tables.specs.Splits.{action_outline_of, context_use, fragment_shape, fragment_tags, outline_of, shape_use, tags_use, use_at};
-ghost use Rattle.cedar_world.specs.of_schema_error.declared.use_place.UsePlace.TheVariants as place;
+ghost use Rattle.cedar_meaning.specs.of_schema_error.declared.use_place.UsePlace.TheVariants as place;
 
 use crate::declarations::{Action, PlacedEntity};
 use crate::outlines::{ActionOutline, EntityOutline};
 use cedar_data::{Dup, Map, Mem, Set};
+use cedar_declared::{ActionFragment, AttributesOrContext, EntityTypeFragment, UsePlace};
 use cedar_names::{EntityType, EntityUID};
-use cedar_world::{ActionFragment, AttributesOrContext, EntityTypeFragment, UsePlace};
 use cedar_written::{ConditionalName, SchemaType};
 use std::alloc::Global;
 

@@ -21,11 +21,11 @@ use Rattle.cedar_names.specs.Order.{words_cmp}
 use Rattle.cedar_schema_error.specs.FullNames.{FullName}
 use Rattle.cedar_sorting.specs.Orders.{IsLeastOnCycle}
 use Rattle.cedar_sorting.proofs.OrderLaws.{leads_inside}
-use Rattle.cedar_unfold.specs.Meanings.{Meanings, full_meanings, definition_of}
+use Rattle.cedar_unfolding.specs.Meanings.{Meanings, full_meanings, definition_of}
 use Rattle.cedar_unfold.specs.Rows.{row_of, written_rows}
 use Rattle.cedar_unfold.specs.Tables.{place_of}
-use Rattle.cedar_unfold.specs.UnfoldPhases.{Refers, IsCircular}
-use Rattle.cedar_unfold.specs.Written.{Written, common_references}
+use Rattle.cedar_unfolding.specs.UnfoldPhases.{Refers, IsCircular}
+use Rattle.cedar_unfolding.specs.Written.{Written, common_references}
 use Rattle.cedar_unfold.proofs.FollowingLemmas.{same_inside}
 use Rattle.cedar_unfold.proofs.Positions.{names_total, filter-to, filter-from, placed, at_place, value_at, row, length_names, length_rows, no_definition}
 

@@ -15,7 +15,7 @@ use Rattle.cedar_sorting.specs.Orders.{IsOrder}
 use Rattle.cedar_unfold.specs.Full.{nodes_at}
 use Rattle.cedar_unfold.specs.Rows.{definition_rows}
 use Rattle.cedar_unfold.specs.Tables.{by_name, names_of}
-use Rattle.cedar_unfold.specs.Written.{Written, nodes}
+use Rattle.cedar_unfolding.specs.Written.{Written, nodes}
 use Rattle.cedar_unfold.proofs.FollowingLemmas.{same_inside}
 use Rattle.cedar_unfold.proofs.NameTables.{get-by_name, keys_of-by_name, names-sorted}
 use Rattle.cedar_unfold.proofs.Positions.{value_at, length_names, length_rows, no_definition}

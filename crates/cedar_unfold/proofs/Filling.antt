@@ -13,14 +13,14 @@ use Rattle.cedar_data.specs.Firsts.{AllPass}
 use Rattle.cedar_names.specs.Order.{words_cmp}
 use Rattle.cedar_schema_error.specs.FullNames.{FullName}
 use Rattle.cedar_sorting.specs.Orders.{IsOrder}
-use Rattle.cedar_unfold.specs.Faults.{faults}
+use Rattle.cedar_unfolding.specs.Faults.{faults}
 use Rattle.cedar_unfold.specs.Finished.{finished}
 use Rattle.cedar_unfold.specs.Full.{AreFaultless, IsDone, IsFull}
-use Rattle.cedar_unfold.specs.Meanings.{Meanings, full_meanings, definition_of}
-use Rattle.cedar_unfold.specs.Resolved.{Resolved}
+use Rattle.cedar_unfolding.specs.Meanings.{Meanings, full_meanings, definition_of}
+use Rattle.cedar_unfolding.specs.Resolved.{Resolved}
 use Rattle.cedar_unfold.specs.Rows.{row_of, written_rows}
 use Rattle.cedar_unfold.specs.Tables.{place_of}
-use Rattle.cedar_unfold.specs.Written.{Written, common_references}
+use Rattle.cedar_unfolding.specs.Written.{Written, common_references}
 use Rattle.cedar_unfold.proofs.FollowingLemmas.{same_inside}
 use Rattle.cedar_unfold.proofs.Keeping.{Finishes, finishes, IsKnown}
 use Rattle.cedar_unfold.proofs.Positions.{same_name, filter-to, placed, at_place, value_at, row, length_names, length_rows, no_definition}

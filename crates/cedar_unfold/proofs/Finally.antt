@@ -13,12 +13,12 @@ use Rattle.cedar_schema_error.specs.FullNames.{FullName}
 use Rattle.cedar_schema_error.specs.Refusals.{Refusal, UsePlace}
 use Rattle.cedar_names.specs.of_text.Words.{has_word}
 use Rattle.cedar_unfold.specs.Full.{AreFaultless, IsFull, UsesOf, job_of, meanings_of}
-use Rattle.cedar_unfold.specs.Meanings.{Meanings, full_meanings}
+use Rattle.cedar_unfolding.specs.Meanings.{Meanings, full_meanings}
 use Rattle.cedar_unfold.specs.Passing.{DefinitionsPass, DefinitionsRefuse, GivesUse, HasSome, HasType, LacksType}
-use Rattle.cedar_unfold.specs.Resolved.{Resolved}
+use Rattle.cedar_unfolding.specs.Resolved.{Resolved}
 use Rattle.cedar_unfold.specs.Tables.{by_name, names_of}
-use Rattle.cedar_unfold.specs.UnfoldPhases.{Job, UnfoldsWithin, UsePasses, UseRefuses, Unfoldable, WhyNotUnfoldable, IsUnfolded}
-use Rattle.cedar_unfold.specs.Written.{Written}
+use Rattle.cedar_unfolding.specs.UnfoldPhases.{Job, UnfoldsWithin, UsePasses, UseRefuses, Unfoldable, WhyNotUnfoldable, IsUnfolded}
+use Rattle.cedar_unfolding.specs.Written.{Written}
 use Rattle.cedar_unfold.proofs.FillSteps.{names-in_order}
 use Rattle.cedar_unfold.proofs.Gathering.{zip-map, zip-pass}
 use Rattle.cedar_unfold.proofs.NameTables.{keys_of-by_name}

@@ -14,10 +14,10 @@ use Rattle.cedar_types.specs.declared.ty.AttributeType.{AttributeType}
 use Rattle.cedar_schema_error.specs.FullNames.{FullName}
 use Rattle.cedar_unfold.specs.Finished.{finished, finished_each, with_attribute}
 use Rattle.cedar_unfold.specs.Following.{labels, first_attribute, following}
-use Rattle.cedar_unfold.specs.Resolved.{Resolved, ResolvedAttributes, nest, greatest_nest}
-use Rattle.cedar_unfold.specs.Resolved as resolved_types
+use Rattle.cedar_unfolding.specs.Resolved.{Resolved, ResolvedAttributes, nest, greatest_nest}
+use Rattle.cedar_unfolding.specs.Resolved as resolved_types
 use Rattle.cedar_unfold.specs.ResolvedViews.{resolved, resolved_attribute, resolved_map}
-use Rattle.cedar_unfold.specs.Written.{Written, WrittenAttributes, attribute}
+use Rattle.cedar_unfolding.specs.Written.{Written, WrittenAttributes, attribute}
 use Rattle.cedar_unfold.proofs.FollowingLemmas.{following-next, following-end, following-None}
 use Rattle.cedar_unfold.proofs.ResolvedTypes.{resolved-attribute}
 

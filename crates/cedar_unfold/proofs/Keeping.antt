@@ -7,14 +7,14 @@ use Rattle.std.specs.List.{AllByRecursion}
 use Rattle.std.specs.Option.{is_some}
 use Rattle.cedar_names.specs.Components.{has_cedar}
 use Rattle.cedar_schema_error.specs.FullNames.{FullName}
-use Rattle.cedar_unfold.specs.Faults.{faults, attribute_faults, open_fault, extension_fault, reserved_fault, either_fault, common_fault}
+use Rattle.cedar_unfolding.specs.Faults.{faults, attribute_faults, open_fault, extension_fault, reserved_fault, either_fault, common_fault}
 use Rattle.cedar_unfold.specs.Finished.{within, set_of, record_of, with_attribute, entity_of, common_or_entity, common_of, finished, finished_each}
 use Rattle.cedar_unfold.specs.Full.{IsDone}
-use Rattle.cedar_unfold.specs.Meanings.{Meanings, full_meanings, definition_of, is_common}
-use Rattle.cedar_unfold.specs.Resolved.{Resolved, ResolvedAttributes, nest, greatest_nest, deepest}
-use Rattle.cedar_unfold.specs.Resolved as resolved
-use Rattle.cedar_unfold.specs.Unfolds.{Unfolds, UnfoldsEach, boolean, long, string, extension, set, closed, entity, common, either_common, either_entity, none, each}
-use Rattle.cedar_unfold.specs.Written.{Written, WrittenAttributes, Boolean, Long, String, Extension, Set, Record, Entity, EntityOrCommon, CommonTypeRef, no_attributes, attribute, common_references, attribute_common_references}
+use Rattle.cedar_unfolding.specs.Meanings.{Meanings, full_meanings, definition_of, is_common}
+use Rattle.cedar_unfolding.specs.Resolved.{Resolved, ResolvedAttributes, nest, greatest_nest, deepest}
+use Rattle.cedar_unfolding.specs.Resolved as resolved
+use Rattle.cedar_unfolding.specs.Unfolds.{Unfolds, UnfoldsEach, boolean, long, string, extension, set, closed, entity, common, either_common, either_entity, none, each}
+use Rattle.cedar_unfolding.specs.Written.{Written, WrittenAttributes, Boolean, Long, String, Extension, Set, Record, Entity, EntityOrCommon, CommonTypeRef, no_attributes, attribute, common_references, attribute_common_references}
 
 -- a set of elements that nest no deeper than a type may, and of others
 set-within : (T : Resolved) → set_of (within T) ≡ within (resolved.Set T)

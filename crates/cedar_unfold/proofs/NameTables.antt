@@ -17,7 +17,7 @@ use Rattle.cedar_names.specs.declared.internal_name.InternalName.{InternalName}
 use Rattle.cedar_schema_error.specs.FullNames.{FullName}
 use Rattle.cedar_unfold.specs.Finished.{common_of, common_or_entity, entity_of, finished}
 use Rattle.cedar_unfold.specs.Tables.{by_name, names_of, place_of, found_type, tabled}
-use Rattle.cedar_unfold.specs.Written.{Written, EntityOrCommon, CommonTypeRef}
+use Rattle.cedar_unfolding.specs.Written.{Written, EntityOrCommon, CommonTypeRef}
 use Rattle.cedar_unfold.specs.declared.nested.Nested.{Nested}
 use Rattle.cedar_unfold.proofs.Puts.{put-here, put-other}
 

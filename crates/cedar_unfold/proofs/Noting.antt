@@ -7,9 +7,9 @@ use Rattle.std.specs.Option.{option_or}
 use Rattle.std.specs.Ordering.{nat_cmp}
 use Rattle.cedar_schema_error.specs.FullNames.{FullName}
 use Rattle.cedar_schema_error.specs.Refusals.{Refusal}
-use Rattle.cedar_unfold.specs.Faults.{faults_by, attribute_faults_by}
+use Rattle.cedar_unfolding.specs.Faults.{faults_by, attribute_faults_by}
 use Rattle.cedar_unfold.specs.Following.{first_of, labels, first_attribute, following}
-use Rattle.cedar_unfold.specs.Written.{Written, WrittenAttributes, nodes, attribute_nodes}
+use Rattle.cedar_unfolding.specs.Written.{Written, WrittenAttributes, nodes, attribute_nodes}
 use Rattle.cedar_unfold.proofs.FollowingLemmas.{following-None, following-next, following-part, following-end, some_nodes}
 
 pub first-append : {A : Type 0} (xs ys : List A) → first_of (xs ++ ys) ≡ option_or (first_of xs) (first_of ys)

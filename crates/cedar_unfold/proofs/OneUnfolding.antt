@@ -3,11 +3,11 @@
 use Rattle.std.proofs.Common.{◌≡◌, false, Some, refl, sym, ap, ◌∙◌, subst}
 use Rattle.std.proofs.lemmas.Option.{none-some}
 use Rattle.cedar_schema_error.specs.FullNames.{FullName}
-use Rattle.cedar_unfold.specs.Meanings.{Meanings, MeansCommon, MeansEntity, definition_of}
-use Rattle.cedar_unfold.specs.Resolved.{Resolved, ResolvedAttributes}
-use Rattle.cedar_unfold.specs.Resolved as resolved
-use Rattle.cedar_unfold.specs.Unfolds.{Unfolds, UnfoldsEach, boolean, long, string, extension, set, closed, entity, common, either_common, either_entity, none, each}
-use Rattle.cedar_unfold.specs.Written.{Written, WrittenAttributes}
+use Rattle.cedar_unfolding.specs.Meanings.{Meanings, MeansCommon, MeansEntity, definition_of}
+use Rattle.cedar_unfolding.specs.Resolved.{Resolved, ResolvedAttributes}
+use Rattle.cedar_unfolding.specs.Resolved as resolved
+use Rattle.cedar_unfolding.specs.Unfolds.{Unfolds, UnfoldsEach, boolean, long, string, extension, set, closed, entity, common, either_common, either_entity, none, each}
+use Rattle.cedar_unfolding.specs.Written.{Written, WrittenAttributes}
 use Rattle.cedar_unfold.proofs.FollowingLemmas.{same_inside}
 
 module _ {N : Type 0} (m : Meanings N) where

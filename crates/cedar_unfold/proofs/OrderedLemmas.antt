@@ -17,14 +17,14 @@ use Rattle.cedar_sorting.specs.Orders.{IsLeastOnCycle, Sorts}
 use Rattle.cedar_sorting.specs.declared.sort.Sorting.{Sorting}
 use Rattle.cedar_sorting.specs.declared.sort.Sorting.TheVariants.{Order, Cycle}
 use Rattle.cedar_names.specs.of_text.Words.{has_word}
-use Rattle.cedar_unfold.specs.Faults.{faults, faults_by}
+use Rattle.cedar_unfolding.specs.Faults.{faults, faults_by}
 use Rattle.cedar_unfold.specs.Following.{first_of}
 use Rattle.cedar_unfold.specs.Full.{meanings_of}
-use Rattle.cedar_unfold.specs.Meanings.{Meanings}
+use Rattle.cedar_unfolding.specs.Meanings.{Meanings}
 use Rattle.cedar_unfold.specs.Passing.{DefinitionsPass, DefinitionsRefuse, TellsSorting}
 use Rattle.cedar_unfold.specs.Rows.{definition_rows, written_rows}
 use Rattle.cedar_unfold.specs.Tables.{by_name, is_among, names_of}
-use Rattle.cedar_unfold.specs.Written.{Written}
+use Rattle.cedar_unfolding.specs.Written.{Written}
 use Rattle.cedar_unfold.proofs.Cycling.{none_circular, least_circular}
 use Rattle.cedar_unfold.proofs.FillSteps.{names-in_order, names-same}
 use Rattle.cedar_unfold.proofs.Positions.{rows_within}

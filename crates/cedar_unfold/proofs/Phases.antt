@@ -2,7 +2,7 @@
 -- From what the phases of unfolding answer to what the whole answers.
 use Rattle.std.proofs.Common.{inl, inr}
 use Rattle.cedar_schema_error.specs.Refusals.{Refusal}
-use Rattle.cedar_unfold.specs.UnfoldPhases.{Job, CommonCycles, CommonFaults, CommonDepths, Uses, UnfoldPasses, UnfoldRefuses, Unfoldable, WhyNotUnfoldable}
+use Rattle.cedar_unfolding.specs.UnfoldPhases.{Job, CommonCycles, CommonFaults, CommonDepths, Uses, UnfoldPasses, UnfoldRefuses, Unfoldable, WhyNotUnfoldable}
 
 module _ {N : Type 0} (job : Job N) where
   pub all_pass : UnfoldPasses job CommonCycles → UnfoldPasses job CommonFaults → UnfoldPasses job CommonDepths → UnfoldPasses job Uses → Unfoldable job

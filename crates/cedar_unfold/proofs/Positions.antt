@@ -23,7 +23,7 @@ use Rattle.cedar_names.specs.OrderLaws.{words-total}
 use Rattle.cedar_schema_error.specs.FullNames.{FullName}
 use Rattle.cedar_unfold.specs.Rows.{row_of, written_rows}
 use Rattle.cedar_unfold.specs.Tables.{place_of}
-use Rattle.cedar_unfold.specs.Written.{Written, Boolean, common_references}
+use Rattle.cedar_unfolding.specs.Written.{Written, Boolean, common_references}
 
 -- names in order
 pub names_total : IsTotalOrder words_cmp

@@ -11,14 +11,14 @@ use Rattle.std.specs.Option.{is_some}
 use Rattle.cedar_data.specs.Firsts.{IsFirst}
 use Rattle.cedar_names.specs.Order.{words_cmp}
 use Rattle.cedar_schema_error.specs.FullNames.{FullName}
-use Rattle.cedar_unfold.specs.Faults.{faults, faults_by}
+use Rattle.cedar_unfolding.specs.Faults.{faults, faults_by}
 use Rattle.cedar_unfold.specs.Finished.{finished, within}
 use Rattle.cedar_unfold.specs.Following.{first_of}
 use Rattle.cedar_unfold.specs.Full.{IsFull}
-use Rattle.cedar_unfold.specs.Meanings.{Meanings, full_meanings, definition_of, is_common}
-use Rattle.cedar_unfold.specs.Resolved.{Resolved, nest, deepest}
+use Rattle.cedar_unfolding.specs.Meanings.{Meanings, full_meanings, definition_of, is_common}
+use Rattle.cedar_unfolding.specs.Resolved.{Resolved, nest, deepest}
 use Rattle.cedar_unfold.specs.Tables.{place_of, is_among, is_tabled}
-use Rattle.cedar_unfold.specs.Written.{Written, common_references}
+use Rattle.cedar_unfolding.specs.Written.{Written, common_references}
 use Rattle.cedar_unfold.proofs.FollowingLemmas.{same_inside}
 use Rattle.cedar_unfold.proofs.Keeping.{Finishes, finishes, IsKnown}
 use Rattle.cedar_unfold.proofs.Positions.{placed, at_place, value_at, no_definition}

@@ -14,7 +14,7 @@ use Rattle.cedar_types.specs.declared.ty.TypeNode.{out-TypeNode, out-roll-TypeNo
 use Rattle.cedar_types.specs.declared.ty.TypeNode.TheOpen as layers
 use Rattle.cedar_types.specs.declared.ty.TypeNode.TheVariants as made
 use Rattle.cedar_types.specs.Types.{bool_type, long_type, string_type, set_type, record_type, entity_type, extension_type, attributes_of}
-use Rattle.cedar_unfold.specs.Resolved.{Resolved, Boolean, Long, String, Extension, Set, Record, Entity}
+use Rattle.cedar_unfolding.specs.Resolved.{Resolved, Boolean, Long, String, Extension, Set, Record, Entity}
 use Rattle.cedar_unfold.specs.ResolvedViews.{is_open, layer_view, resolved, resolved_attribute, resolved_attributes, resolved_map}
 
 abbrev marked : Resolved → Bool → Bool × Resolved

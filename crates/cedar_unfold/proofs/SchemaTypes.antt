@@ -19,8 +19,8 @@ use Rattle.cedar_written.specs.declared.ty.RecordType.{RecordType, out-RecordTyp
 use Rattle.cedar_written.specs.declared.ty.TypeOfAttribute.{TypeOfAttribute, out-TypeOfAttribute, fold_out-TypeOfAttribute}
 use Rattle.cedar_unfold.specs.Following.{first_of, follows, next_entry, next_attribute, labels, following, first_attribute}
 use Rattle.cedar_unfold.specs.Heads.{attributes_of}
-use Rattle.cedar_unfold.specs.Written.{Written, WrittenAttributes, Boolean, Long, String, Extension, Set, Record, Entity, EntityOrCommon, CommonTypeRef, attribute}
-use Rattle.cedar_unfold.specs.WrittenViews.{written_attributes, type_view, variant_view, record_view, attribute_view, written_type, written_variant, written_attribute}
+use Rattle.cedar_unfolding.specs.Written.{Written, WrittenAttributes, Boolean, Long, String, Extension, Set, Record, Entity, EntityOrCommon, CommonTypeRef, attribute}
+use Rattle.cedar_unfolding.specs.WrittenViews.{written_attributes, type_view, variant_view, record_view, attribute_view, written_type, written_variant, written_attribute}
 
 module _ {N M : Type 0} (name : N → M) where
   abbrev of_type : SchemaType N → Written M

@@ -9,7 +9,7 @@ use Rattle.cedar_schema_error.specs.FullNames.{FullName}
 use Rattle.cedar_sorting.specs.Orders.{IsOrder}
 use Rattle.cedar_unfold.specs.Full.{nodes_at}
 use Rattle.cedar_unfold.specs.Rows.{row_of, written_rows}
-use Rattle.cedar_unfold.specs.Written.{Written, nodes, all_nodes}
+use Rattle.cedar_unfolding.specs.Written.{Written, nodes, all_nodes}
 
 pub sum_same : {X : Type 0} (f g : X → ℕ) (xs : List X) → ((k : ℕ) (d : X) → k < length xs → f (get_or xs k d) ≡ g (get_or xs k d)) → sum_by f xs ≡ sum_by g xs
 sum_same f g [] same = refl

@@ -11,11 +11,11 @@ use Rattle.std.specs.Option.{option_or}
 use Rattle.std.specs.Ordering.{nat_cmp}
 use Rattle.cedar_schema_error.specs.FullNames.{FullName}
 use Rattle.cedar_schema_error.specs.Refusals.{Refusal}
-use Rattle.cedar_unfold.specs.Faults.{faults_by, attribute_faults_by}
+use Rattle.cedar_unfolding.specs.Faults.{faults_by, attribute_faults_by}
 use Rattle.cedar_unfold.specs.Following.{first_of, labels, first_attribute, following}
 use Rattle.cedar_unfold.specs.Rows.{row_of, attribute_row_of, written_rows}
 use Rattle.cedar_unfold.specs.Tables.{is_among, place_of}
-use Rattle.cedar_unfold.specs.Written.{Written, WrittenAttributes, nodes, attribute_nodes, all_nodes, common_references, attribute_common_references}
+use Rattle.cedar_unfolding.specs.Written.{Written, WrittenAttributes, nodes, attribute_nodes, all_nodes, common_references, attribute_common_references}
 use Rattle.cedar_unfold.proofs.FollowingLemmas.{following-None, following-next, following-end}
 use Rattle.cedar_unfold.proofs.Noting.{Noting, Noting-start, Noting-next, Noting-counts, Noting-part, Noting-less, Noting-fault, Noting-steps, first-append, or-None, or-assoc}
 

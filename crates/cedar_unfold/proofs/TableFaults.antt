@@ -9,10 +9,10 @@ use Rattle.cedar_names.specs.Names.{internal_cmp}
 use Rattle.cedar_names.specs.declared.internal_name.InternalName.{InternalName}
 use Rattle.cedar_schema_error.specs.FullNames.{FullName}
 use Rattle.cedar_schema_error.specs.Refusals.{Refusal, CommonTypeInvariantViolation}
-use Rattle.cedar_unfold.specs.Faults.{common_fault, either_fault, entity_fault, faults_by}
+use Rattle.cedar_unfolding.specs.Faults.{common_fault, either_fault, entity_fault, faults_by}
 use Rattle.cedar_unfold.specs.Following.{first_of}
 use Rattle.cedar_unfold.specs.Tables.{is_tabled, tabled}
-use Rattle.cedar_unfold.specs.Written.{Written, EntityOrCommon, CommonTypeRef}
+use Rattle.cedar_unfolding.specs.Written.{Written, EntityOrCommon, CommonTypeRef}
 use Rattle.cedar_unfold.specs.declared.nested.Nested.{Nested}
 use Rattle.cedar_unfold.proofs.NameTables.{table_has}
 use Rattle.cedar_unfold.proofs.Noting.{or-None}

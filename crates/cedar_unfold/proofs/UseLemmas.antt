@@ -10,17 +10,17 @@ use Rattle.cedar_names.specs.declared.extensions.Extensions.{Extensions}
 use Rattle.cedar_schema_error.specs.FullNames.{FullName}
 use Rattle.cedar_schema_error.specs.Refusals.{UsePlace, Refusal, TooDeep, Place, ContextOrShapeNotRecord}
 use Rattle.cedar_names.specs.of_text.Words.{has_word}
-use Rattle.cedar_unfold.specs.Faults.{faults, faults_by}
+use Rattle.cedar_unfolding.specs.Faults.{faults, faults_by}
 use Rattle.cedar_unfold.specs.Finished.{finished}
 use Rattle.cedar_unfold.specs.Following.{first_of}
 use Rattle.cedar_unfold.specs.Full.{IsFull, meanings_of}
-use Rattle.cedar_unfold.specs.Meanings.{Meanings}
+use Rattle.cedar_unfolding.specs.Meanings.{Meanings}
 use Rattle.cedar_unfold.specs.Passing.{PassesAs}
-use Rattle.cedar_unfold.specs.Resolved.{Resolved, nest, deepest}
+use Rattle.cedar_unfolding.specs.Resolved.{Resolved, nest, deepest}
 use Rattle.cedar_unfold.specs.Tables.{is_tabled}
-use Rattle.cedar_unfold.specs.UnfoldPhases.{Fits, UseRefuses}
-use Rattle.cedar_unfold.specs.Unfolds.{Unfolds}
-use Rattle.cedar_unfold.specs.Written.{Written}
+use Rattle.cedar_unfolding.specs.UnfoldPhases.{Fits, UseRefuses}
+use Rattle.cedar_unfolding.specs.Unfolds.{Unfolds}
+use Rattle.cedar_unfolding.specs.Written.{Written}
 use Rattle.cedar_unfold.proofs.Keeping.{Finishes}
 use Rattle.cedar_unfold.proofs.Ready.{first-is, first-none, within-some, within-none, finishes_full, faults-full}
 

@@ -13,16 +13,16 @@ use Rattle.cedar_data.specs.Firsts.{AllPass, FirstRefused, IsFirst}
 use Rattle.cedar_names.specs.Order.{words_cmp}
 use Rattle.cedar_schema_error.specs.FullNames.{FullName}
 use Rattle.cedar_schema_error.specs.Refusals.{Refusal, TooDeep, CommonType}
-use Rattle.cedar_unfold.specs.Faults.{faults}
+use Rattle.cedar_unfolding.specs.Faults.{faults}
 use Rattle.cedar_unfold.specs.Finished.{within, common_of}
 use Rattle.cedar_unfold.specs.Following.{first_of}
 use Rattle.cedar_unfold.specs.Full.{IsFull}
-use Rattle.cedar_unfold.specs.Meanings.{Meanings, full_meanings, definition_of}
+use Rattle.cedar_unfolding.specs.Meanings.{Meanings, full_meanings, definition_of}
 use Rattle.cedar_unfold.specs.Passing.{HasType, HasSome, LacksType}
-use Rattle.cedar_unfold.specs.Resolved.{Resolved, nest, deepest}
-use Rattle.cedar_unfold.specs.UnfoldPhases.{UnfoldsWithin, UnfoldsPast}
-use Rattle.cedar_unfold.specs.Unfolds.{Unfolds}
-use Rattle.cedar_unfold.specs.Written.{Written}
+use Rattle.cedar_unfolding.specs.Resolved.{Resolved, nest, deepest}
+use Rattle.cedar_unfolding.specs.UnfoldPhases.{UnfoldsWithin, UnfoldsPast}
+use Rattle.cedar_unfolding.specs.Unfolds.{Unfolds}
+use Rattle.cedar_unfolding.specs.Written.{Written}
 use Rattle.cedar_unfold.proofs.FollowingLemmas.{same_inside}
 use Rattle.cedar_unfold.proofs.Positions.{names_total}
 use Rattle.cedar_unfold.proofs.Ready.{within-some, within-none}

@@ -3,9 +3,9 @@
 use Rattle.std.specs.Prelude.{ℕ, Bool, false, cond, List, [], ◌∷◌, Option, Some, None, nat_le}
 use Rattle.cedar_names.specs.Components.{has_cedar}
 use Rattle.cedar_schema_error.specs.FullNames.{FullName}
-use Rattle.cedar_unfold.specs.Resolved.{Resolved, ResolvedAttributes, nest, deepest}
-use Rattle.cedar_unfold.specs.Resolved as resolved
-use Rattle.cedar_unfold.specs.Written.{Written, WrittenAttributes, Boolean, Long, String, Extension, Set, Record, Entity, EntityOrCommon, CommonTypeRef, no_attributes, attribute}
+use Rattle.cedar_unfolding.specs.Resolved.{Resolved, ResolvedAttributes, nest, deepest}
+use Rattle.cedar_unfolding.specs.Resolved as resolved
+use Rattle.cedar_unfolding.specs.Written.{Written, WrittenAttributes, Boolean, Long, String, Extension, Set, Record, Entity, EntityOrCommon, CommonTypeRef, no_attributes, attribute}
 
 -- the type, unless it nests too deep
 abbrev pub within : Resolved → Option Resolved

@@ -4,7 +4,7 @@ use Rattle.std.specs.Prelude.{ℕ, Bool, true, cond, List, [], ◌∷◌, Option
 use Rattle.std.specs.Cmp.Lexicographic.{slice_cmp}
 use Rattle.std.specs.List.{filter}
 use Rattle.std.specs.Ordering.{is_lt, nat_cmp}
-use Rattle.cedar_unfold.specs.Written.{Written, WrittenAttributes, no_attributes, attribute}
+use Rattle.cedar_unfolding.specs.Written.{Written, WrittenAttributes, no_attributes, attribute}
 
 -- the first of a list
 abbrev pub first_of : {A : Type 0} → List A → Option A

@@ -9,13 +9,13 @@ use Rattle.cedar_schema_error.specs.Refusals.{UsePlace}
 use Rattle.cedar_schema_error.specs.Told.{told_use}
 use Rattle.cedar_schema_error.specs.declared.use_place.UsePlace as code
 use Rattle.cedar_names.specs.of_text.Words.{has_word}
-use Rattle.cedar_unfold.specs.Faults.{faults}
+use Rattle.cedar_unfolding.specs.Faults.{faults}
 use Rattle.cedar_unfold.specs.Finished.{within}
-use Rattle.cedar_unfold.specs.Meanings.{Meanings, definition_of, full_meanings}
-use Rattle.cedar_unfold.specs.Resolved.{Resolved}
-use Rattle.cedar_unfold.specs.UnfoldPhases.{Job, full_job}
-use Rattle.cedar_unfold.specs.Unfolds.{Unfolds}
-use Rattle.cedar_unfold.specs.Written.{Written, nodes}
+use Rattle.cedar_unfolding.specs.Meanings.{Meanings, definition_of, full_meanings}
+use Rattle.cedar_unfolding.specs.Resolved.{Resolved}
+use Rattle.cedar_unfolding.specs.UnfoldPhases.{Job, full_job}
+use Rattle.cedar_unfolding.specs.Unfolds.{Unfolds}
+use Rattle.cedar_unfolding.specs.Written.{Written, nodes}
 
 -- definitions of common types by name, and uses by place
 abbrev pub Definitions : Type 0

@@ -6,8 +6,8 @@ use Rattle.cedar_names.specs.Identifiers.{unreserved_word}
 use Rattle.cedar_schema_error.specs.FullNames.{FullName}
 use Rattle.cedar_unfold.specs.declared.node.Looked.{Looked}
 use Rattle.cedar_unfold.specs.declared.node.Looked.TheVariants as seen
-use Rattle.cedar_unfold.specs.Written.{Written, WrittenAttributes, no_attributes}
-use Rattle.cedar_unfold.specs.Written as written
+use Rattle.cedar_unfolding.specs.Written.{Written, WrittenAttributes, no_attributes}
+use Rattle.cedar_unfolding.specs.Written as written
 
 -- the attributes of a record, none for another type
 abbrev pub attributes_of : {N : Type 0} → Written N → WrittenAttributes N

@@ -6,14 +6,14 @@ use Rattle.cedar_schema_error.specs.FullNames.{FullName}
 use Rattle.cedar_schema_error.specs.Refusals.{CommonType, CycleInCommonTypeReferences, Refusal, TooDeep, UsePlace}
 use Rattle.cedar_sorting.specs.declared.sort.Sorting.{Sorting}
 use Rattle.cedar_sorting.specs.declared.sort.Sorting.TheVariants.{Order, Cycle}
-use Rattle.cedar_unfold.specs.Faults.{faults}
+use Rattle.cedar_unfolding.specs.Faults.{faults}
 use Rattle.cedar_unfold.specs.Finished.{common_of}
 use Rattle.cedar_unfold.specs.Full.{Definitions, job_of}
-use Rattle.cedar_unfold.specs.Meanings.{Meanings}
-use Rattle.cedar_unfold.specs.Resolved.{Resolved, nest, deepest}
-use Rattle.cedar_unfold.specs.UnfoldPhases.{CommonCycles, CommonFaults, Fits, UnfoldPasses, UnfoldRefuses}
-use Rattle.cedar_unfold.specs.Unfolds.{Unfolds}
-use Rattle.cedar_unfold.specs.Written.{Written}
+use Rattle.cedar_unfolding.specs.Meanings.{Meanings}
+use Rattle.cedar_unfolding.specs.Resolved.{Resolved, nest, deepest}
+use Rattle.cedar_unfolding.specs.UnfoldPhases.{CommonCycles, CommonFaults, Fits, UnfoldPasses, UnfoldRefuses}
+use Rattle.cedar_unfolding.specs.Unfolds.{Unfolds}
+use Rattle.cedar_unfolding.specs.Written.{Written}
 
 module _ (m : Meanings FullName) where
   -- a use passes, and unfolds to this type

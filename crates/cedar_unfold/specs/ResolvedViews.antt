@@ -9,7 +9,7 @@ use Rattle.cedar_types.specs.declared.ty.OpenTag.{OpenTag}
 use Rattle.cedar_types.specs.declared.ty.OpenTag.TheVariants.{OpenAttributes, ClosedAttributes}
 use Rattle.cedar_types.specs.declared.ty.ResolvedType.{ResolvedType}
 use Rattle.cedar_types.specs.declared.ty.TypeNode.TheOpen as layers
-use Rattle.cedar_unfold.specs.Resolved.{Resolved, ResolvedAttributes, Boolean, Long, String, Extension, Set, Record, Entity, no_attributes, attribute}
+use Rattle.cedar_unfolding.specs.Resolved.{Resolved, ResolvedAttributes, Boolean, Long, String, Extension, Set, Record, Entity, no_attributes, attribute}
 
 -- attributes by name, each with whether it is required and its type
 abbrev pub resolved_attributes : List (List ℕ × (Bool × Resolved)) → ResolvedAttributes

@@ -5,7 +5,7 @@ use Rattle.std.specs.List.{filter_map}
 use Rattle.std.specs.Map.{keys_of}
 use Rattle.cedar_schema_error.specs.FullNames.{FullName}
 use Rattle.cedar_unfold.specs.Tables.{place_of}
-use Rattle.cedar_unfold.specs.Written.{Written, WrittenAttributes, common_references, attribute_common_references}
+use Rattle.cedar_unfolding.specs.Written.{Written, WrittenAttributes, common_references, attribute_common_references}
 
 -- the positions of the common types that a type names
 abbrev pub row_of : List FullName → Written FullName → List ℕ

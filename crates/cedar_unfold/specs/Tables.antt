@@ -8,7 +8,7 @@ use Rattle.cedar_names.specs.Components.{components}
 use Rattle.cedar_names.specs.Order.{words_cmp}
 use Rattle.cedar_names.specs.declared.internal_name.InternalName.{InternalName}
 use Rattle.cedar_schema_error.specs.FullNames.{FullName}
-use Rattle.cedar_unfold.specs.Resolved.{Resolved}
+use Rattle.cedar_unfolding.specs.Resolved.{Resolved}
 use Rattle.cedar_unfold.specs.ResolvedViews.{resolved}
 use Rattle.cedar_unfold.specs.declared.nested.Nested.{Nested}
 

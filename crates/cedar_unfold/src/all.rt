@@ -19,8 +19,8 @@ ghost use Rattle.cedar_unfold.specs.Passing.{DefinitionsPass, DefinitionsRefuse,
 ghost use Rattle.cedar_unfold.specs.ResolvedViews.{resolved};
 ghost use Rattle.cedar_unfold.specs.Rows.{definition_rows};
 ghost use Rattle.cedar_unfold.specs.Tables.{by_name, names_of, tabled};
-ghost use Rattle.cedar_unfold.specs.UnfoldPhases.{Unfoldable, WhyNotUnfoldable, IsUnfolded};
-ghost use Rattle.cedar_unfold.specs.Written.{all_nodes, node_count};
+ghost use Rattle.cedar_unfolding.specs.UnfoldPhases.{Unfoldable, WhyNotUnfoldable, IsUnfolded};
+ghost use Rattle.cedar_unfolding.specs.Written.{all_nodes, node_count};
 
 use crate::copies::put_copy;
 use crate::faults::Fault;

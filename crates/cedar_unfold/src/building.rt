@@ -3,8 +3,8 @@ ghost use Rattle.std.specs.Prelude.{◌≡◌, [], ◌∷◌, false, IfOk};
 ghost use Rattle.cedar_names.specs.Components.{components};
 ghost use Rattle.cedar_names.specs.Identifiers.{unreserved_word};
 ghost use Rattle.cedar_unfold.specs.Finished.{entity_of, within};
-ghost use Rattle.cedar_unfold.specs.Resolved as resolved_types;
-ghost use Rattle.cedar_unfold.specs.Resolved.{nest, greatest_nest};
+ghost use Rattle.cedar_unfolding.specs.Resolved as resolved_types;
+ghost use Rattle.cedar_unfolding.specs.Resolved.{nest, greatest_nest};
 ghost use Rattle.cedar_unfold.specs.ResolvedViews.{resolved, resolved_map};
 ghost use Rattle.cedar_unfold.specs.Tables.{found_type};
 

@@ -7,7 +7,7 @@ ghost use Rattle.cedar_names.specs.Identifiers.{unreserved_word};
 ghost use Rattle.cedar_schema_error.specs.Refusals.{OpenRecord, CommonTypeInvariantViolation};
 ghost use Rattle.cedar_schema_error.specs.Told.{told};
 ghost use Rattle.cedar_names.specs.of_text.Words.{has_word};
-ghost use Rattle.cedar_unfold.specs.Faults.{entity_fault, extension_fault, open_fault};
+ghost use Rattle.cedar_unfolding.specs.Faults.{entity_fault, extension_fault, open_fault};
 ghost use Rattle.cedar_unfold.specs.Following.{first_of};
 ghost use Rattle.cedar_unfold.specs.Notes.{told_fault, noted};
 

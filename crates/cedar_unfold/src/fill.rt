@@ -5,7 +5,7 @@ ghost use Rattle.std.specs.List.Sorted.{IsStrictlySortedBy};
 ghost use Rattle.std.specs.Map.{keys_of};
 ghost use Rattle.cedar_names.specs.Names.{internal_cmp};
 ghost use Rattle.cedar_sorting.specs.Orders.{IsOrder};
-ghost use Rattle.cedar_unfold.specs.Meanings.{full_meanings};
+ghost use Rattle.cedar_unfolding.specs.Meanings.{full_meanings};
 ghost use Rattle.cedar_unfold.specs.Full.{IsFull, AreFaultless, nodes_at};
 ghost use Rattle.cedar_unfold.specs.Rows.{definition_rows};
 ghost use Rattle.cedar_unfold.specs.Tables.{by_name, tabled};

@@ -1,9 +1,9 @@
 // SPDX-License-Identifier: Apache-2.0
 ghost use Rattle.std.specs.Prelude.{◌≡◌};
-ghost use Rattle.cedar_unfold.specs.Meanings.{Meanings};
-ghost use Rattle.cedar_unfold.specs.Resolved.{Resolved};
-ghost use Rattle.cedar_unfold.specs.Unfolds.{Unfolds};
-ghost use Rattle.cedar_unfold.specs.Written.{Written};
+ghost use Rattle.cedar_unfolding.specs.Meanings.{Meanings};
+ghost use Rattle.cedar_unfolding.specs.Resolved.{Resolved};
+ghost use Rattle.cedar_unfolding.specs.Unfolds.{Unfolds};
+ghost use Rattle.cedar_unfolding.specs.Written.{Written};
 
 /// A law: a written type unfolds to at most one type, whatever its references are and mean. It does nothing when it
 /// runs.

@@ -1,6 +1,6 @@
 // SPDX-License-Identifier: Apache-2.0
 ghost use Rattle.std.specs.Prelude.{◌≡◌};
-ghost use Rattle.cedar_unfold.specs.Resolved.{nest};
+ghost use Rattle.cedar_unfolding.specs.Resolved.{nest};
 ghost use Rattle.cedar_unfold.specs.ResolvedViews.{resolved};
 
 use cedar_data::{Dup, Mem};

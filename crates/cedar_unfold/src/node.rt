@@ -40,7 +40,7 @@ pub trait TypeNode: Sized {
     ghost use Rattle.cedar_schema_error.specs.FullNames.{FullName};
     ghost use Rattle.cedar_unfold.specs.Following.{labels, next_attribute};
     ghost use Rattle.cedar_unfold.specs.Heads.{Tells, IsRecord, attributes_of};
-    ghost use Rattle.cedar_unfold.specs.Written.{Written};
+    ghost use Rattle.cedar_unfolding.specs.Written.{Written};
 
     /// The written type that it is.
     ghost written: { Self → Written FullName };

@@ -9,7 +9,7 @@ use std::sync::ledger::Ledger;
 
 impl TypeNode for SchemaType<InternalName> {
     ghost use Rattle.cedar_names.specs.Components.{components};
-    ghost use Rattle.cedar_unfold.specs.WrittenViews.{written_type};
+    ghost use Rattle.cedar_unfolding.specs.WrittenViews.{written_type};
 
     ghost written = { written_type components };
 

@@ -6,13 +6,13 @@ ghost use Rattle.std.specs.Option.{option_or};
 ghost use Rattle.cedar_names.specs.Extensions.{extension_words};
 ghost use Rattle.cedar_names.specs.Names.{internal_cmp};
 ghost use Rattle.cedar_names.specs.of_text.Words.{has_word};
-ghost use Rattle.cedar_unfold.specs.Faults.{faults_by, attribute_faults_by};
+ghost use Rattle.cedar_unfolding.specs.Faults.{faults_by, attribute_faults_by};
 ghost use Rattle.cedar_unfold.specs.Following.{first_of};
 ghost use Rattle.cedar_unfold.specs.Heads.{IsRecord, attributes_of};
 ghost use Rattle.cedar_unfold.specs.Notes.{noted};
 ghost use Rattle.cedar_unfold.specs.Rows.{row_of, attribute_row_of, written_rows};
 ghost use Rattle.cedar_unfold.specs.Tables.{by_name, is_among, names_of};
-ghost use Rattle.cedar_unfold.specs.Written.{nodes, attribute_nodes, all_nodes};
+ghost use Rattle.cedar_unfolding.specs.Written.{nodes, attribute_nodes, all_nodes};
 
 use crate::faults::{Fault, note_entity, note_extension, note_no_common, note_record};
 use crate::keys::place_of;

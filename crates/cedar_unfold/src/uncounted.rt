@@ -5,7 +5,7 @@ ghost use Rattle.cedar_schema_error.specs.Told.{told};
 ghost use Rattle.cedar_unfold.specs.Full.{by_place, job_of};
 ghost use Rattle.cedar_unfold.specs.ResolvedViews.{resolved};
 ghost use Rattle.cedar_unfold.specs.Tables.{by_name};
-ghost use Rattle.cedar_unfold.specs.UnfoldPhases.{IsUnfolded, Unfoldable, WhyNotUnfoldable};
+ghost use Rattle.cedar_unfolding.specs.UnfoldPhases.{IsUnfolded, Unfoldable, WhyNotUnfoldable};
 
 use crate::all::{Unfolded, unfold_all};
 use crate::node::TypeNode;

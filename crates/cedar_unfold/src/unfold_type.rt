@@ -4,13 +4,13 @@ ghost use Rattle.std.specs.Option.{option_or};
 ghost use Rattle.cedar_names.specs.Components.{components};
 ghost use Rattle.cedar_names.specs.Extensions.{extension_words};
 ghost use Rattle.cedar_names.specs.of_text.Words.{has_word};
-ghost use Rattle.cedar_unfold.specs.Faults.{attribute_faults_by, entity_fault, faults_by};
+ghost use Rattle.cedar_unfolding.specs.Faults.{attribute_faults_by, entity_fault, faults_by};
 ghost use Rattle.cedar_unfold.specs.Finished.{entity_of, finished};
 ghost use Rattle.cedar_unfold.specs.Following.{first_of};
 ghost use Rattle.cedar_unfold.specs.Heads.{IsRecord, attributes_of};
 ghost use Rattle.cedar_unfold.specs.Notes.{noted};
 ghost use Rattle.cedar_unfold.specs.Tables.{is_tabled, tabled, found_type};
-ghost use Rattle.cedar_unfold.specs.Written.{nodes, attribute_nodes};
+ghost use Rattle.cedar_unfolding.specs.Written.{nodes, attribute_nodes};
 
 use crate::faults::{Fault, note_entity, note_extension, note_no_common, note_record};
 use crate::nested::Nested;

@@ -9,8 +9,8 @@ ghost use Rattle.cedar_unfold.specs.Full.{Definitions, IsFull, by_place, meaning
 ghost use Rattle.cedar_unfold.specs.Passing.{GivesUse, PassesAs};
 ghost use Rattle.cedar_unfold.specs.ResolvedViews.{resolved};
 ghost use Rattle.cedar_unfold.specs.Tables.{tabled};
-ghost use Rattle.cedar_unfold.specs.UnfoldPhases.{Fits, UsePasses, UseRefuses};
-ghost use Rattle.cedar_unfold.specs.Written.{nodes, all_nodes};
+ghost use Rattle.cedar_unfolding.specs.UnfoldPhases.{Fits, UsePasses, UseRefuses};
+ghost use Rattle.cedar_unfolding.specs.Written.{nodes, all_nodes};
 
 use crate::copies::put_copy;
 use crate::nested::Nested;

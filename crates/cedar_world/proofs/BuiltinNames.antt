@@ -12,7 +12,7 @@ use Rattle.cedar_names.specs.declared.id.UnreservedId.{UnreservedId}
 use Rattle.cedar_names.specs.declared.internal_name.InternalName.{InternalName}
 use Rattle.cedar_written.specs.declared.conditional_name.ConditionalName.{ConditionalName}
 use Rattle.cedar_written.specs.declared.ty.SchemaType.{SchemaType}
-use Rattle.cedar_world.specs.DefinitionViews.{common_type_in, type_in}
+use Rattle.cedar_meaning.specs.DefinitionViews.{common_type_in, type_in}
 
 -- an identifier in a namespace has the components of the namespace, and then its word
 pub named_within : (id : UnreservedId) (ns : InternalName) → components (qualified (internal_name (id_of id) [] None) (Some ns)) ≡ components ns ++ unreserved_word id ∷ []

@@ -8,9 +8,9 @@ ghost use Rattle.cedar_names.specs.Extensions.{extension_words};
 ghost use Rattle.cedar_names.specs.Identifiers.{unreserved_word};
 ghost use Rattle.cedar_names.specs.Order.{words_cmp};
 ghost use Rattle.cedar_names.specs.of_text.Words.{primitive_words};
-ghost use Rattle.cedar_world.specs.DefinitionViews.{common_type_in, namespace_in, variant_in};
-ghost use Rattle.cedar_world.specs.Definitions.{of_common_types};
-ghost use Rattle.cedar_world.specs.Worlds.{aliases, aliases_among, builtin_name, builtin_namespaces, builtins, primitives};
+ghost use Rattle.cedar_meaning.specs.DefinitionViews.{common_type_in, namespace_in, variant_in};
+ghost use Rattle.cedar_meaning.specs.Definitions.{of_common_types};
+ghost use Rattle.cedar_meaning.specs.Worlds.{aliases, aliases_among, builtin_name, builtin_namespaces, builtins, primitives};
 
 use cedar_data::{Dup, Map, Mem};
 use cedar_declared::{

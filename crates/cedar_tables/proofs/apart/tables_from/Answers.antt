@@ -1,6 +1,6 @@
 -- SPDX-License-Identifier: Apache-2.0
 use Rattle.cedar_data.specs.Maps.{map_of}
-use Rattle.cedar_world.specs.of_declared.Gathering.{action_cmp}
+use Rattle.cedar_declared.specs.Gathering.{action_cmp}
 use Rattle.cedar_names.specs.Names.{entity_cmp}
 use Rattle.cedar_tables.proofs.Ordered.{parts_ordered}
 use Rattle.cedar_tables.proofs.apart.tables_from.Goals as goal

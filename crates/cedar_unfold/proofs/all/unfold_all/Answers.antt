@@ -11,7 +11,7 @@ use Rattle.cedar_unfold.specs.Passing.{DefinitionsRefuse, HasSome, LacksType}
 use Rattle.cedar_unfold.specs.ResolvedViews.{resolved}
 use Rattle.cedar_unfold.specs.Rows.{definition_rows}
 use Rattle.cedar_unfold.specs.Tables.{by_name, names_of, tabled}
-use Rattle.cedar_unfold.specs.UnfoldPhases.{UsePasses, UseRefuses, WhyNotUnfoldable}
+use Rattle.cedar_unfolding.specs.UnfoldPhases.{UsePasses, UseRefuses, WhyNotUnfoldable}
 use Rattle.cedar_unfold.proofs.Finally.{ordered-refused, full, commons-refused, uses-refused, passes_all, unfolds_all}
 use Rattle.cedar_unfold.proofs.Sums.{order-nodes}
 use Rattle.cedar_unfold.proofs.UseLemmas.{refused-weaker}

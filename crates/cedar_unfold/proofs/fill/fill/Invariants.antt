@@ -2,7 +2,7 @@
 use Rattle.std.proofs.Common.{ℕ, ◌+◌, ◌≤◌, Bool, List, drop}
 use Rattle.std.specs.List.{sum_by}
 use Rattle.cedar_unfold.specs.Full.{AreFaultless, nodes_at}
-use Rattle.cedar_unfold.specs.Meanings.{full_meanings}
+use Rattle.cedar_unfolding.specs.Meanings.{full_meanings}
 use Rattle.cedar_unfold.specs.Tables.{by_name, tabled}
 use Rattle.cedar_unfold.proofs.Filling.{Filling}
 use Rattle.cedar_unfold.proofs.fill.fill.Given as goal

@@ -7,7 +7,7 @@ use Rattle.cedar_unfold.specs.Following.{following}
 use Rattle.cedar_unfold.specs.Heads.{attributes_of}
 use Rattle.cedar_unfold.specs.Notes.{noted}
 use Rattle.cedar_unfold.specs.Tables.{names_of}
-use Rattle.cedar_unfold.specs.Written.{nodes, attribute_nodes}
+use Rattle.cedar_unfolding.specs.Written.{nodes, attribute_nodes}
 use Rattle.cedar_unfold.proofs.Surveying.{Surveying}
 use Rattle.cedar_unfold.proofs.survey.+survey.Given as goal
 

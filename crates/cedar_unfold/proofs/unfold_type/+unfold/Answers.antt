@@ -11,7 +11,7 @@ use Rattle.cedar_names.specs.Extensions.{extension_words}
 use Rattle.cedar_names.specs.of_text.Words.{has_word}
 use Rattle.cedar_unfold.specs.Finished.{entity_of, finished, record_of, within}
 use Rattle.cedar_unfold.specs.Heads.{attributes_of}
-use Rattle.cedar_unfold.specs.Resolved as resolved_types
+use Rattle.cedar_unfolding.specs.Resolved as resolved_types
 use Rattle.cedar_unfold.specs.ResolvedViews.{resolved_map}
 use Rattle.cedar_unfold.specs.Notes.{noted}
 use Rattle.cedar_unfold.specs.Tables.{found_type, is_tabled, tabled}

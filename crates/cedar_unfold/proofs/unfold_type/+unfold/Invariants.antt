@@ -7,7 +7,7 @@ use Rattle.cedar_unfold.specs.Following.{following}
 use Rattle.cedar_unfold.specs.Heads.{attributes_of}
 use Rattle.cedar_unfold.specs.Notes.{noted}
 use Rattle.cedar_unfold.specs.Tables.{is_tabled, tabled}
-use Rattle.cedar_unfold.specs.Written.{nodes, attribute_nodes}
+use Rattle.cedar_unfolding.specs.Written.{nodes, attribute_nodes}
 use Rattle.cedar_unfold.proofs.Joins.{Joining}
 use Rattle.cedar_unfold.proofs.Noting.{Noting}
 use Rattle.cedar_unfold.proofs.unfold_type.+unfold.Given as goal

@@ -8,7 +8,7 @@ use Rattle.cedar_unfold.specs.Notes.{noted, told_fault}
 use Rattle.cedar_unfold.specs.Passing.{PassesAs}
 use Rattle.cedar_unfold.specs.ResolvedViews.{resolved}
 use Rattle.cedar_unfold.specs.Tables.{found_type, tabled}
-use Rattle.cedar_unfold.specs.UnfoldPhases.{Fits, UseRefuses}
+use Rattle.cedar_unfolding.specs.UnfoldPhases.{Fits, UseRefuses}
 use Rattle.cedar_unfold.proofs.UseLemmas.{refused-weaker, refused-fault, refused-deep, refused-misfit, passes}
 use Rattle.cedar_unfold.proofs.uses.unfolded_use.Goals as goal
 

@@ -6,8 +6,8 @@ use Rattle.cedar_unfold.specs.Full.{Definitions, IsFull, by_place, meanings_of}
 use Rattle.cedar_unfold.specs.Passing.{GivesUse}
 use Rattle.cedar_unfold.specs.ResolvedViews.{resolved}
 use Rattle.cedar_unfold.specs.Tables.{tabled}
-use Rattle.cedar_unfold.specs.UnfoldPhases.{UsePasses, UseRefuses}
-use Rattle.cedar_unfold.specs.Written.{all_nodes}
+use Rattle.cedar_unfolding.specs.UnfoldPhases.{UsePasses, UseRefuses}
+use Rattle.cedar_unfolding.specs.Written.{all_nodes}
 use Rattle.cedar_unfold.proofs.Gathering.{Gathering}
 use Rattle.cedar_unfold.proofs.uses.unfolded_uses.Given as goal
 

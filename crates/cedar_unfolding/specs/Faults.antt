@@ -4,8 +4,8 @@ use Rattle.std.specs.Prelude.{ℕ, Bool, true, false, List, [], ◌∷◌, ◌++
 use Rattle.cedar_names.specs.Components.{has_cedar}
 use Rattle.cedar_schema_error.specs.FullNames.{FullName}
 use Rattle.cedar_schema_error.specs.Refusals.{Refusal, ReservedName, OpenRecord, UnknownExtensionType, CommonTypeInvariantViolation}
-use Rattle.cedar_unfold.specs.Meanings.{Meanings, is_common}
-use Rattle.cedar_unfold.specs.Written.{Written, WrittenAttributes, Boolean, Long, String, Extension, Set, Record, Entity, EntityOrCommon, CommonTypeRef, no_attributes, attribute}
+use Rattle.cedar_unfolding.specs.Meanings.{Meanings, is_common}
+use Rattle.cedar_unfolding.specs.Written.{Written, WrittenAttributes, Boolean, Long, String, Extension, Set, Record, Entity, EntityOrCommon, CommonTypeRef, no_attributes, attribute}
 
 -- a record that is open
 abbrev pub open_fault : Bool → List Refusal

@@ -5,16 +5,16 @@ use Rattle.std.specs.List.{AllZip}
 use Rattle.cedar_data.specs.Sets.{contains, IsSetOf}
 use Rattle.cedar_declared.specs.Names.{targets}
 use Rattle.cedar_names.specs.Order.{words_cmp}
-use Rattle.cedar_unfold.specs.of_schema_error.FullNames.{FullName, Uid, uid_cmp}
-use Rattle.cedar_unfold.specs.of_schema_error.NameReferences.{ActionReference, NameReference}
-use Rattle.cedar_unfold.specs.Resolved.{Resolved}
-use Rattle.cedar_unfold.specs.Resolved as resolved
-use Rattle.cedar_unfold.specs.Unfolds.{Unfolds}
-use Rattle.cedar_unfold.specs.Written.{Written}
-use Rattle.cedar_world.specs.Definitions.{ActionDefinition, EntityDefinition, Enumerated, Standard}
-use Rattle.cedar_world.specs.Descents.{ActionDescendsFrom, DescendsFrom}
-use Rattle.cedar_world.specs.Schemas.{EntityKind, EnumeratedKind, Schema, SchemaAction, SchemaEntity, StandardKind}
-use Rattle.cedar_world.specs.Worlds.{World, actions, entity_types, meanings, names}
+use Rattle.cedar_unfolding.specs.of_schema_error.FullNames.{FullName, Uid, uid_cmp}
+use Rattle.cedar_unfolding.specs.of_schema_error.NameReferences.{ActionReference, NameReference}
+use Rattle.cedar_unfolding.specs.Resolved.{Resolved}
+use Rattle.cedar_unfolding.specs.Resolved as resolved
+use Rattle.cedar_unfolding.specs.Unfolds.{Unfolds}
+use Rattle.cedar_unfolding.specs.Written.{Written}
+use Rattle.cedar_meaning.specs.Definitions.{ActionDefinition, EntityDefinition, Enumerated, Standard}
+use Rattle.cedar_meaning.specs.Descents.{ActionDescendsFrom, DescendsFrom}
+use Rattle.cedar_meaning.specs.Schemas.{EntityKind, EnumeratedKind, Schema, SchemaAction, SchemaEntity, StandardKind}
+use Rattle.cedar_meaning.specs.Worlds.{World, actions, entity_types, meanings, names}
 
 module _ (W : World) where
   -- tags unfold to tags, and none to none

@@ -5,11 +5,11 @@ use Rattle.std.specs.List.{flat_map}
 use Rattle.cedar_data.specs.Sets.{contains}
 use Rattle.cedar_declared.specs.Names.{is_entity, targets}
 use Rattle.cedar_names.specs.Order.{words_cmp}
-use Rattle.cedar_unfold.specs.of_schema_error.FullNames.{FullName}
-use Rattle.cedar_unfold.specs.of_schema_error.NameReferences.{ActionReference, NameReference}
-use Rattle.cedar_unfold.specs.Written.{Written, WrittenAttributes, Boolean, Long, String, Extension, Set, Record, Entity, EntityOrCommon, CommonTypeRef, no_attributes, attribute}
-use Rattle.cedar_world.specs.Definitions.{ActionDefinition, EntityDefinition, parents_of}
-use Rattle.cedar_world.specs.Worlds.{World, actions, common_types, entity_types, names, uses}
+use Rattle.cedar_unfolding.specs.of_schema_error.FullNames.{FullName}
+use Rattle.cedar_unfolding.specs.of_schema_error.NameReferences.{ActionReference, NameReference}
+use Rattle.cedar_unfolding.specs.Written.{Written, WrittenAttributes, Boolean, Long, String, Extension, Set, Record, Entity, EntityOrCommon, CommonTypeRef, no_attributes, attribute}
+use Rattle.cedar_meaning.specs.Definitions.{ActionDefinition, EntityDefinition, parents_of}
+use Rattle.cedar_meaning.specs.Worlds.{World, actions, common_types, entity_types, names, uses}
 
 -- the references of a type that stand where only an entity type may stand
 abbrev mutual

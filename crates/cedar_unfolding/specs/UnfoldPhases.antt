@@ -6,12 +6,12 @@ use Rattle.cedar_types.specs.of_closure.Chains.{Reaches}
 use Rattle.cedar_data.specs.Firsts.{AllPass, SomePasses, FirstRefused, IsFirst, IsLeast}
 use Rattle.cedar_names.specs.Order.{words_cmp}
 use Rattle.cedar_schema_error.specs.FullNames.{FullName}
-use Rattle.cedar_unfold.specs.Faults.{faults}
-use Rattle.cedar_unfold.specs.Meanings.{Meanings, definition_of, is_common, full_meanings}
+use Rattle.cedar_unfolding.specs.Faults.{faults}
+use Rattle.cedar_unfolding.specs.Meanings.{Meanings, definition_of, is_common, full_meanings}
 use Rattle.cedar_schema_error.specs.Refusals.{UsePlace, Shape, Tags, Context, CommonType, Place, Refusal, CycleInCommonTypeReferences, TooDeep, ContextOrShapeNotRecord}
-use Rattle.cedar_unfold.specs.Resolved.{Resolved, nest, deepest, is_record}
-use Rattle.cedar_unfold.specs.Unfolds.{Unfolds}
-use Rattle.cedar_unfold.specs.Written.{Written, common_references}
+use Rattle.cedar_unfolding.specs.Resolved.{Resolved, nest, deepest, is_record}
+use Rattle.cedar_unfolding.specs.Unfolds.{Unfolds}
+use Rattle.cedar_unfolding.specs.Written.{Written, common_references}
 
 module _ {N : Type 0} (m : Meanings N) where
   -- both are common types, and the definition of the first holds a reference to the second

@@ -1,11 +1,11 @@
 -- SPDX-License-Identifier: Apache-2.0
 -- Definitions of namespaces, places aside, over references to types and to actions that are anything.
 use Rattle.std.specs.Prelude.{ℕ, List, [], ◌∷◌, Option, Some, None}
-use Rattle.cedar_unfold.specs.of_schema_error.FullNames.{FullName, Uid}
-use Rattle.cedar_unfold.specs.of_schema_error.NameReferences.{ActionReference, NameReference}
+use Rattle.cedar_unfolding.specs.of_schema_error.FullNames.{FullName, Uid}
+use Rattle.cedar_unfolding.specs.of_schema_error.NameReferences.{ActionReference, NameReference}
 use Rattle.cedar_types.specs.declared.ty.Attributes.{Attributes}
 use Rattle.cedar_types.specs.declared.value.ValueMap.{ValueMap}
-use Rattle.cedar_unfold.specs.Written.{Written}
+use Rattle.cedar_unfolding.specs.Written.{Written}
 
 -- an entity type: its parents, its shape and its tags; or the ids of its entities
 pub data EntityDefinition (N : Type 0) : Type 0 where

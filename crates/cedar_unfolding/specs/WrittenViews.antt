@@ -8,7 +8,7 @@ use Rattle.cedar_written.specs.declared.ty.SchemaType.TheOpen.{SchemaType-F, Typ
 use Rattle.cedar_written.specs.declared.ty.TypeVariant.{TypeVariant, fold-TypeVariant}
 use Rattle.cedar_written.specs.declared.ty.RecordType.{RecordType, fold-RecordType}
 use Rattle.cedar_written.specs.declared.ty.TypeOfAttribute.{TypeOfAttribute, fold-TypeOfAttribute}
-use Rattle.cedar_unfold.specs.Written.{Written, WrittenAttributes, Boolean, Long, String, Extension, Set, Record, Entity, EntityOrCommon, CommonTypeRef, no_attributes, attribute}
+use Rattle.cedar_unfolding.specs.Written.{Written, WrittenAttributes, Boolean, Long, String, Extension, Set, Record, Entity, EntityOrCommon, CommonTypeRef, no_attributes, attribute}
 
 -- attributes by name, each with whether it is required and its type
 abbrev pub written_attributes : {N : Type 0} → List (List ℕ × (Bool × Written N)) → WrittenAttributes N

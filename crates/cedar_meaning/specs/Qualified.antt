@@ -2,10 +2,10 @@
 -- Types with its target in place of each reference.
 use Rattle.std.specs.Prelude.{◌≡◌, ℕ, Bool, List, Option, Some}
 use Rattle.std.specs.List.{AllZip}
-use Rattle.cedar_unfold.specs.of_schema_error.FullNames.{FullName}
-use Rattle.cedar_unfold.specs.of_schema_error.Refusals.{UsePlace}
-use Rattle.cedar_unfold.specs.UnfoldPhases.{Job}
-use Rattle.cedar_unfold.specs.Written.{Written, WrittenAttributes, Boolean, Long, String, Extension, Set, Record, Entity, EntityOrCommon, CommonTypeRef, no_attributes, attribute}
+use Rattle.cedar_unfolding.specs.of_schema_error.FullNames.{FullName}
+use Rattle.cedar_unfolding.specs.of_schema_error.Refusals.{UsePlace}
+use Rattle.cedar_unfolding.specs.UnfoldPhases.{Job}
+use Rattle.cedar_unfolding.specs.Written.{Written, WrittenAttributes, Boolean, Long, String, Extension, Set, Record, Entity, EntityOrCommon, CommonTypeRef, no_attributes, attribute}
 
 module _ {N : Type 0} (target : N → Option FullName) where
   mutual

@@ -1,10 +1,10 @@
 -- SPDX-License-Identifier: Apache-2.0
 -- Schemas, places aside.
 use Rattle.std.specs.Prelude.{ℕ, Bool, List, Option}
-use Rattle.cedar_unfold.specs.of_schema_error.FullNames.{FullName, Uid}
+use Rattle.cedar_unfolding.specs.of_schema_error.FullNames.{FullName, Uid}
 use Rattle.cedar_types.specs.declared.ty.Attributes.{Attributes}
 use Rattle.cedar_types.specs.declared.value.ValueMap.{ValueMap}
-use Rattle.cedar_unfold.specs.Resolved.{Resolved, ResolvedAttributes}
+use Rattle.cedar_unfolding.specs.Resolved.{Resolved, ResolvedAttributes}
 
 -- what an entity type of a schema is: its attributes, whether its entities may have others, and its tags; or the ids of its entities
 pub data EntityKind : Type 0 where

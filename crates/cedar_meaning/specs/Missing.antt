@@ -4,10 +4,10 @@ use Rattle.std.specs.Prelude.{◌++◌, List, [], ◌∷◌, map}
 use Rattle.std.specs.List.{filter, filter_map, flat_map}
 use Rattle.cedar_declared.specs.Names.{Names, action_target, targets, undefined, undefined_actions}
 use Rattle.cedar_names.specs.Components.{has_cedar}
-use Rattle.cedar_unfold.specs.of_schema_error.FullNames.{FullName}
-use Rattle.cedar_unfold.specs.of_schema_error.NameReferences.{ActionReference, NameReference}
-use Rattle.cedar_unfold.specs.Written.{Written, references}
-use Rattle.cedar_world.specs.Definitions.{ActionDefinition, EntityDefinition, Namespace, parents_of, shape_of, tags_of}
+use Rattle.cedar_unfolding.specs.of_schema_error.FullNames.{FullName}
+use Rattle.cedar_unfolding.specs.of_schema_error.NameReferences.{ActionReference, NameReference}
+use Rattle.cedar_unfolding.specs.Written.{Written, references}
+use Rattle.cedar_meaning.specs.Definitions.{ActionDefinition, EntityDefinition, Namespace, parents_of, shape_of, tags_of}
 
 -- the first list, or the second where the first is empty
 abbrev pub or_else : {A : Type 0} → List A → List A → List A

@@ -3,10 +3,10 @@
 use Rattle.std.specs.Prelude.{◌≡◌, ℕ, Bool, false, IsTrue, List, [], ◌∷◌, Some}
 use Rattle.cedar_names.specs.Components.{has_cedar}
 use Rattle.cedar_schema_error.specs.FullNames.{FullName}
-use Rattle.cedar_unfold.specs.Meanings.{Meanings, MeansEntity, MeansCommon}
-use Rattle.cedar_unfold.specs.Resolved.{Resolved, ResolvedAttributes}
-use Rattle.cedar_unfold.specs.Resolved as resolved
-use Rattle.cedar_unfold.specs.Written.{Written, WrittenAttributes, Boolean, Long, String, Extension, Set, Record, Entity, EntityOrCommon, CommonTypeRef, no_attributes, attribute}
+use Rattle.cedar_unfolding.specs.Meanings.{Meanings, MeansEntity, MeansCommon}
+use Rattle.cedar_unfolding.specs.Resolved.{Resolved, ResolvedAttributes}
+use Rattle.cedar_unfolding.specs.Resolved as resolved
+use Rattle.cedar_unfolding.specs.Written.{Written, WrittenAttributes, Boolean, Long, String, Extension, Set, Record, Entity, EntityOrCommon, CommonTypeRef, no_attributes, attribute}
 
 module _ {N : Type 0} (m : Meanings N) where
   mutual

@@ -6,15 +6,15 @@ use Rattle.std.specs.Map.{keys_of}
 use Rattle.cedar_data.specs.Maps.{map_of}
 use Rattle.cedar_declared.specs.Names.{Names, is_common, is_entity, target}
 use Rattle.cedar_names.specs.Order.{words_cmp}
-use Rattle.cedar_unfold.specs.of_schema_error.FullNames.{FullName, Uid, uid_cmp}
-use Rattle.cedar_unfold.specs.of_schema_error.NameReferences.{ActionReference, NameReference}
-use Rattle.cedar_unfold.specs.of_schema_error.Refusals.{UsePlace, Context, Shape, Tags}
+use Rattle.cedar_unfolding.specs.of_schema_error.FullNames.{FullName, Uid, uid_cmp}
+use Rattle.cedar_unfolding.specs.of_schema_error.NameReferences.{ActionReference, NameReference}
+use Rattle.cedar_unfolding.specs.of_schema_error.Refusals.{UsePlace, Context, Shape, Tags}
 use Rattle.cedar_names.specs.of_text.Words.{has_word, primitive_words}
-use Rattle.cedar_unfold.specs.Meanings.{Meanings}
-use Rattle.cedar_unfold.specs.UnfoldPhases.{Job}
-use Rattle.cedar_unfold.specs.Written.{Written, Boolean, Long, String, Extension, EntityOrCommon}
+use Rattle.cedar_unfolding.specs.Meanings.{Meanings}
+use Rattle.cedar_unfolding.specs.UnfoldPhases.{Job}
+use Rattle.cedar_unfolding.specs.Written.{Written, Boolean, Long, String, Extension, EntityOrCommon}
 use Rattle.cedar_written.specs.declared.reference_type.ReferenceType.TheVariants.{CommonOrEntity}
-use Rattle.cedar_world.specs.Definitions.{ActionDefinition, EntityDefinition, Namespace, of_common_types, shape_of, tags_of}
+use Rattle.cedar_meaning.specs.Definitions.{ActionDefinition, EntityDefinition, Namespace, of_common_types, shape_of, tags_of}
 
 -- the names that namespaces declare
 abbrev pub names_in : List Namespace → Names

@@ -12,15 +12,15 @@ use Rattle.cedar_names.specs.Names.{entity_words}
 use Rattle.cedar_names.specs.declared.entity_uid.EntityUID.{EntityUID}
 use Rattle.cedar_names.specs.declared.internal_name.InternalName.{InternalName}
 use Rattle.cedar_names.specs.declared.name.EntityType.{EntityType}
-use Rattle.cedar_unfold.specs.of_schema_error.FullNames.{FullName, Uid, uid_in}
-use Rattle.cedar_unfold.specs.of_schema_error.NameReferences.{ActionReference, NameReference, action_reference_of, reference_of}
+use Rattle.cedar_unfolding.specs.of_schema_error.FullNames.{FullName, Uid, uid_in}
+use Rattle.cedar_unfolding.specs.of_schema_error.NameReferences.{ActionReference, NameReference, action_reference_of, reference_of}
 use Rattle.cedar_names.specs.of_text.Lists.{elements}
-use Rattle.cedar_unfold.specs.Written.{Written}
-use Rattle.cedar_unfold.specs.WrittenViews.{written_type, written_variant}
+use Rattle.cedar_unfolding.specs.Written.{Written}
+use Rattle.cedar_unfolding.specs.WrittenViews.{written_type, written_variant}
 use Rattle.cedar_written.specs.declared.conditional_name.ConditionalName.{ConditionalName}
 use Rattle.cedar_written.specs.declared.ty.SchemaType.{SchemaType}
 use Rattle.cedar_written.specs.declared.ty.TypeVariant.{TypeVariant}
-use Rattle.cedar_world.specs.Definitions.{ActionDefinition, EntityDefinition, Enumerated, Namespace, Standard}
+use Rattle.cedar_meaning.specs.Definitions.{ActionDefinition, EntityDefinition, Enumerated, Namespace, Standard}
 
 -- a type, each of whose references carries the names that it may stand for
 abbrev pub type_in : SchemaType ConditionalName → Written NameReference

@@ -1,15 +1,15 @@
 -- SPDX-License-Identifier: Apache-2.0
 -- What descends from what.
 use Rattle.std.specs.Prelude.{◌≡◌, Some}
-use Rattle.cedar_unfold.specs.of_closure.Chains.{Reaches}
+use Rattle.cedar_unfolding.specs.of_closure.Chains.{Reaches}
 use Rattle.cedar_data.specs.Firsts.{SomePasses}
 use Rattle.cedar_data.specs.Maps.{get}
 use Rattle.cedar_declared.specs.Names.{action_target, target}
 use Rattle.cedar_names.specs.Order.{words_cmp}
-use Rattle.cedar_unfold.specs.of_schema_error.FullNames.{FullName, Uid, uid_cmp}
-use Rattle.cedar_unfold.specs.of_schema_error.NameReferences.{ActionReference, NameReference}
-use Rattle.cedar_world.specs.Definitions.{ActionDefinition, EntityDefinition, parents_of}
-use Rattle.cedar_world.specs.Worlds.{World, actions, entity_types, names}
+use Rattle.cedar_unfolding.specs.of_schema_error.FullNames.{FullName, Uid, uid_cmp}
+use Rattle.cedar_unfolding.specs.of_schema_error.NameReferences.{ActionReference, NameReference}
+use Rattle.cedar_meaning.specs.Definitions.{ActionDefinition, EntityDefinition, parents_of}
+use Rattle.cedar_meaning.specs.Worlds.{World, actions, entity_types, names}
 
 module _ (W : World) where
   -- an entity type, and the target of one of its parents

@@ -6,7 +6,7 @@ use Rattle.cedar_data.specs.Maps.{get}
 use Rattle.cedar_names.specs.Components.{has_cedar}
 use Rattle.cedar_names.specs.Order.{words_cmp}
 use Rattle.cedar_schema_error.specs.FullNames.{FullName}
-use Rattle.cedar_unfold.specs.Written.{Written}
+use Rattle.cedar_unfolding.specs.Written.{Written}
 
 -- the target of each reference, the definitions of the common types in the order of their names, and which words name extension types
 pub record Meanings (N : Type 0) : Type 0 where

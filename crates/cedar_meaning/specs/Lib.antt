@@ -1,0 +1,12 @@
+-- SPDX-License-Identifier: Apache-2.0
+pub mod of_schema_error
+pub mod of_unfolding
+pub mod Definitions
+pub mod DefinitionViews
+pub mod Worlds
+pub mod Descents
+pub mod Missing
+pub mod Undeclared
+pub mod Qualified
+pub mod Schemas
+pub mod Denotes

@@ -1,0 +1,10 @@
+-- SPDX-License-Identifier: Apache-2.0
+pub mod of_schema_error
+pub mod of_closure
+pub mod Written
+pub mod WrittenViews
+pub mod Resolved
+pub mod Meanings
+pub mod Unfolds
+pub mod Faults
+pub mod UnfoldPhases
