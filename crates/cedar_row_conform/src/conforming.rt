@@ -3,7 +3,7 @@ use crate::values::{outcome, value_of};
 use cedar_conform::conforms_entities;
 use cedar_data::{Failure, Mem, NoMemory, Out};
 use cedar_resolved::ValidatorSchema;
-use cedar_row_schemas::{CedarSchemaError, error_told, schema_of};
+use cedar_row_schema_lines::{CedarSchemaError, error_told, schema_of};
 use cedar_row_trees::line_of;
 use serde_json::Value;
 use std::alloc::Global;

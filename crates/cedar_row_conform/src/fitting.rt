@@ -4,7 +4,7 @@ use cedar_conform::conforms_value;
 use cedar_data::{Failure, Mem, NoMemory, Out};
 use cedar_names::EntityType;
 use cedar_resolved::ValidatorSchema;
-use cedar_row_schemas::{CedarSchemaError, error_told, schema_of};
+use cedar_row_schema_lines::{CedarSchemaError, error_told, schema_of};
 use cedar_row_trees::line_of;
 use cedar_types::Type;
 use serde_json::Value;

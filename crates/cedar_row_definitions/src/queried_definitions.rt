@@ -6,7 +6,7 @@ use cedar_definitions::{EntityTypeFragment, ValidatorNamespaceDef, ValidatorSche
 use cedar_fragment::{Fragment, NamespaceDefinition, RawName};
 use cedar_names::{Extensions, InternalName, Name, UnreservedId};
 use cedar_namespace_definitions::FromNamespaceDefinition;
-use cedar_row_queries::{Bracketed, CedarSchemaError, FragmentText, error_told};
+use cedar_row_schema_lines::{Bracketed, CedarSchemaError, FragmentText, error_told};
 use cedar_row_trees::Lines;
 use cedar_schema_error::{ActionBehavior, SchemaError};
 use cedar_written::ConditionalName;

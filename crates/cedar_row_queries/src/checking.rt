@@ -5,7 +5,7 @@ ghost use Rattle.cedar_resolved.specs.Environments.{applies};
 use cedar_data::{Failure, Mem, NoMemory, Out};
 use cedar_names::{EntityType, EntityUID, NameFault};
 use cedar_resolved::{RequestEnv, ValidatorSchema};
-use cedar_row_schemas::{CedarSchemaError, error_told, schema_of};
+use cedar_row_schema_lines::{CedarSchemaError, error_told, schema_of};
 use cedar_row_trees::line_of;
 use std::alloc::Global;
 

@@ -2,19 +2,15 @@
 //! Verbs of rows on what the queries of a schema answer, and two small checkers on the queries.
 #![tactic(auto)]
 
-mod bracketed;
 mod checking;
 mod made_schemas;
 mod queried_actions;
 mod queried_schemas;
 mod queried_types;
 
-pub use cedar_row_schemas::{CedarSchemaError, FragmentText, FromFragment, add_attributes, add_view, error_told, schema_of};
-pub use bracketed::Bracketed;
 use cedar_data::Mem;
 pub use checking::checked;
 pub use made_schemas::made_queries;
-pub use queried_actions::types_told;
 pub use queried_schemas::{made_told, queries};
 use std::alloc::Global;
 

@@ -1,8 +1,8 @@
 // SPDX-License-Identifier: Apache-2.0
-use crate::bracketed::Bracketed;
 use cedar_data::{Mem, SetIter};
 use cedar_names::{EntityType, EntityUID};
 use cedar_resolved::{ValidatorActionId, ValidatorSchema};
+use cedar_row_schema_lines::{Bracketed, types_told};
 use cedar_row_trees::Lines;
 use cedar_types::{OpenTag, Type, TypeView};
 use std::alloc::Global;
@@ -82,15 +82,6 @@ fn types_or_none(alloc: Global, types: Option<SetIter<'_, EntityType>>) -> Mem<S
         Some(types) => types_told(alloc, types),
         None => Ok(format!(in alloc; "none")?),
     }
-}
-
-/// The entity types in brackets.
-pub fn types_told(alloc: Global, types: SetIter<'_, EntityType>) -> Mem<String> {
-    let mut names = Bracketed::new(alloc);
-    for ty in types {
-        names.add_type(ty)?;
-    }
-    names.told()
 }
 
 /// What an action says of itself, and of each entity type of the schema.

@@ -1,11 +1,10 @@
 // SPDX-License-Identifier: Apache-2.0
-use crate::bracketed::Bracketed;
 use crate::queried_actions::{add_action_lookup, add_actions};
 use crate::queried_types::{add_type_lookup, add_types};
 use cedar_data::{Dup, Failure, Mem, NoMemory, Out};
 use cedar_names::{EntityType, EntityUID};
 use cedar_resolved::{Entity, RequestEnv, ValidatorSchema};
-use cedar_row_schemas::{CedarSchemaError, error_told, schema_of};
+use cedar_row_schema_lines::{Bracketed, CedarSchemaError, error_told, schema_of};
 use cedar_row_trees::Lines;
 use std::alloc::Global;
 

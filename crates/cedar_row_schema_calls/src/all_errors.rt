@@ -1,7 +1,7 @@
 // SPDX-License-Identifier: Apache-2.0
 use cedar_data::{Boxed, Failure, Mem, NoMemory};
 use cedar_names::NonEmpty;
-use cedar_row_queries::{CedarSchemaError, error_told, schema_of};
+use cedar_row_schema_lines::{CedarSchemaError, error_told, schema_of};
 use cedar_row_trees::line_of;
 use cedar_schema_error::SchemaError;
 use std::alloc::Global;

@@ -3,7 +3,7 @@ ghost use Rattle.std.specs.Prelude.{◌≡◌, ◌<◌};
 
 use cedar_data::{Failure, Mem, NoMemory, Out};
 use cedar_names::{EntityType, Extensions};
-use cedar_row_queries::{add_attributes, add_view};
+use cedar_row_schema_lines::{add_attributes, add_view};
 use cedar_row_trees::{Lines, line_of};
 use cedar_schema_error::{SchemaError, UsePlace};
 use cedar_types::{Type, TypeView};

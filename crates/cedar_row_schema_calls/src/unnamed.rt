@@ -3,7 +3,8 @@ use cedar_data::{Dup, Failure, Mem, Out};
 use cedar_fragment::{Fragment, NamespaceDefinition, RawName};
 use cedar_names::Extensions;
 use cedar_resolved::ValidatorSchema;
-use cedar_row_queries::{CedarSchemaError, FragmentText, FromFragment, made_told};
+use cedar_row_queries::made_told;
+use cedar_row_schema_lines::{CedarSchemaError, FragmentText, FromFragment};
 use std::alloc::Global;
 
 /// What the queries of the schema give that the namespace without a name of the input denotes by itself; or what is

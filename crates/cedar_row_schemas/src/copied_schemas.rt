@@ -1,8 +1,8 @@
 // SPDX-License-Identifier: Apache-2.0
-use crate::schema_errors::schema_of;
 use cedar_data::{Failure, Mem, NoMemory, Out};
 use cedar_resolved::{ValidatorActionId, ValidatorEntityType, ValidatorSchema};
 use cedar_row_calls::printing;
+use cedar_row_schema_lines::schema_of;
 use cedar_row_trees::Lines;
 use cedar_schema::CedarSchemaError;
 use cedar_types::{OpenTag, TypeView};

@@ -6,17 +6,15 @@
 mod copied_schemas;
 mod hand_built;
 mod lists;
-mod schema_errors;
 mod values;
 
 use cedar_data::Mem;
-pub use cedar_schema::{CedarSchemaError, FragmentText, FromFragment};
+use cedar_row_schema_lines::schema_error;
 pub use copied_schemas::schema_copies;
 pub use hand_built::beside;
 pub use lists::several;
-pub use schema_errors::{error_told, schema_error, schema_of};
 use std::alloc::Global;
-pub use values::{action_values, add_attributes, add_view};
+pub use values::action_values;
 
 /// What the verb of this name answers to an input; none where there is no such verb.
 pub fn answer(alloc: Global, verb: &str, words: &[&str], input: &str) -> Mem<Option<String>> {

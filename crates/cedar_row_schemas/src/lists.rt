@@ -1,12 +1,12 @@
 // SPDX-License-Identifier: Apache-2.0
-use crate::schema_errors::error_told;
 use cedar_data::{Failure, Mem, NoMemory, Out};
 use cedar_definitions::{ValidatorNamespaceDef, ValidatorSchemaFragment};
 use cedar_fragment::{Fragment, RawName};
 use cedar_listing::write_listing;
 use cedar_names::Extensions;
-use cedar_schema::{CedarSchemaError, FragmentText, FromSchemaFragment, FromSchemaFragments};
 use cedar_resolved::ValidatorSchema;
+use cedar_row_schema_lines::error_told;
+use cedar_schema::{CedarSchemaError, FragmentText, FromSchemaFragment, FromSchemaFragments};
 use cedar_schema_error::ActionBehavior;
 use cedar_streams::MemSink;
 use cedar_written::ConditionalName;

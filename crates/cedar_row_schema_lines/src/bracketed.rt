@@ -1,5 +1,5 @@
 // SPDX-License-Identifier: Apache-2.0
-use cedar_data::Mem;
+use cedar_data::{Mem, SetIter};
 use cedar_names::{EntityType, EntityUID, InternalName};
 use std::alloc::Global;
 
@@ -52,4 +52,13 @@ impl Bracketed {
         let items = self.text;
         Ok(format!(in alloc; "[{items}]")?)
     }
+}
+
+/// The entity types in brackets.
+pub fn types_told(alloc: Global, types: SetIter<'_, EntityType>) -> Mem<String> {
+    let mut names = Bracketed::new(alloc);
+    for ty in types {
+        names.add_type(ty)?;
+    }
+    names.told()
 }
