@@ -91,12 +91,15 @@ pub(crate) fn assemble(
     actions: Map<EntityUID, ActionOutline>,
 ) -> Out<ValidatorSchema, SchemaError>
     ensures passes { IfOk result (λ _. (W : World)
-        → HoldsUnfolded W all_defs.now types.now.full.common_types types.now.full.uses types.now.uses entity_types actions → AllPassed W last_phases) }
+        → HoldsUnfolded W all_defs.now types.now.full.common_types types.now.full.uses
+        types.now.uses entity_types actions → AllPassed W last_phases) }
     ensures denotes { IfOk result (λ S. (W : World)
-        → HoldsUnfolded W all_defs.now types.now.full.common_types types.now.full.uses types.now.uses entity_types actions → Denotes W (schema_in S)) }
+        → HoldsUnfolded W all_defs.now types.now.full.common_types types.now.full.uses
+        types.now.uses entity_types actions → Denotes W (schema_in S)) }
     ensures named { IfOk result IsNamed }
     ensures refused { IfRefused result (λ e. (W : World)
-        → HoldsUnfolded W all_defs.now types.now.full.common_types types.now.full.uses types.now.uses entity_types actions → OneRefuses W last_phases (told e)) }
+        → HoldsUnfolded W all_defs.now types.now.full.common_types types.now.full.uses
+        types.now.uses entity_types actions → OneRefuses W last_phases (told e)) }
 {
     let memberships = membership_names(alloc, all_defs, &entity_types, &actions)?;
     match resolved_actions(alloc, all_defs, actions, &types.uses) {
