@@ -1,10 +1,10 @@
 -- SPDX-License-Identifier: Apache-2.0
 -- Declarations are refused with the first of their references that the step refuses.
-use Rattle.std.proofs.Common.{◌≡◌, List, [], ◌∷◌, map, option_map, option_to_list, refl}
+use Rattle.std.proofs.Common.{[], ◌∷◌, map, option_map, option_to_list, refl}
 use Rattle.std.specs.List.{flat_map}
 use Rattle.std.specs.declared.result.Result.{Result}
 use Rattle.cedar_types.specs.of_data.Maps.{map_values}
-use Rattle.cedar_written.specs.Answers.{and_then, all_items, all_values, in_option}
+use Rattle.cedar_written.specs.Answers.{all_items, all_values, in_option}
 use Rattle.cedar_written.specs.Reference.{Reference, parent}
 use Rattle.cedar_written.specs.References.{references, references_of_names}
 use Rattle.cedar_written.specs.Through.{through_names, through_type}

@@ -1,6 +1,6 @@
 -- SPDX-License-Identifier: Apache-2.0
 -- Actions as parents, which are the same where types and ids are.
-use Rattle.std.proofs.Common.{◌≡◌, ℕ, List, Option, Some, ◌||◌, is_some, IsTrue, ap, subst, ◌∙◌}
+use Rattle.std.proofs.Common.{◌≡◌, ℕ, List, Option, ◌||◌, is_some, IsTrue, subst}
 use Rattle.std.proofs.Props.{props}
 use Rattle.cedar_written.specs.declared.ref_name.RefName as ref_name
 use Rattle.cedar_fragment.specs.declared.action_uid.ActionEntityUID.{ActionEntityUID}

@@ -1,13 +1,13 @@
 -- SPDX-License-Identifier: Apache-2.0
 -- Declarations with what comes of each name in its place: the first refusal in the order of fields and keys, else the same over the new names.
-use Rattle.std.specs.Prelude.{false, List, map}
+use Rattle.std.specs.Prelude.{false, map}
 use Rattle.std.specs.Option.{option_map}
 use Rattle.std.specs.declared.result.Result.{Result}
 use Rattle.std.specs.declared.result.Result.TheVariants.{Ok}
 use Rattle.cedar_types.specs.of_data.Maps.{map_values}
 use Rattle.cedar_written.specs.Answers.{and_then, all_items, all_values, in_option}
 use Rattle.cedar_written.specs.Bare.{nameless}
-use Rattle.cedar_written.specs.Reference.{Reference, named, parent}
+use Rattle.cedar_written.specs.Reference.{Reference, parent}
 use Rattle.cedar_written.specs.Through.{through_names, through_type}
 use Rattle.cedar_written.specs.declared.ref_name.RefName as ref_name
 use Rattle.cedar_written.specs.declared.reference_type.ReferenceType.TheVariants as kind

@@ -1,6 +1,6 @@
 -- SPDX-License-Identifier: Apache-2.0
 -- Declarations as the human syntax writes them: lists of tokens with blanks between them.
-use Rattle.std.specs.Prelude.{ℕ, Bool, true, false, not, List, [], ◌∷◌, ◌++◌, Option, Some, None, if◌then◌else◌, codes}
+use Rattle.std.specs.Prelude.{ℕ, Bool, false, not, List, [], ◌∷◌, ◌++◌, Option, Some, None, if◌then◌else◌, codes}
 use Rattle.std.specs.List.{flat_map}
 use Rattle.cedar_types.specs.of_text.Lists.{elements}
 use Rattle.cedar_types.specs.of_text.declared.non_empty.NonEmpty.{NonEmpty}
@@ -10,7 +10,7 @@ use Rattle.cedar_types.specs.of_names.Names.{internal_of}
 use Rattle.cedar_types.specs.of_names.declared.id.UnreservedId.{UnreservedId}
 use Rattle.cedar_types.specs.of_names.declared.name.Name.{Name}
 use Rattle.cedar_print.specs.Annotations.{annotations_pieces}
-use Rattle.cedar_print.specs.Pieces.{Piece, Pieces, word, mark, quoted, name, blank, space, line_end, named, bracketed, name_pieces, quoted_alone}
+use Rattle.cedar_print.specs.Pieces.{Piece, Pieces, word, mark, quoted, blank, space, line_end, named, bracketed, name_pieces, quoted_alone}
 use Rattle.cedar_written.specs.CommonTypeIds.{unreserved_of}
 use Rattle.cedar_written.specs.Printed.{print_type}
 use Rattle.cedar_written.specs.WrittenTypes.{TypeLayer, VariantLayer}

@@ -1,9 +1,9 @@
 -- SPDX-License-Identifier: Apache-2.0
 -- The references of declarations, in the order of fields and keys.
-use Rattle.std.specs.Prelude.{List, [], ◌∷◌, ◌++◌}
+use Rattle.std.specs.Prelude.{[], ◌∷◌, ◌++◌}
 use Rattle.std.specs.List.{flat_map}
 use Rattle.std.specs.Option.{option_to_list}
-use Rattle.cedar_written.specs.Reference.{Reference, parent}
+use Rattle.cedar_written.specs.Reference.{parent}
 use Rattle.cedar_written.specs.References.{Refs, references, references_of_names}
 use Rattle.cedar_written.specs.declared.ref_name.RefName as ref_name
 use Rattle.cedar_written.specs.declared.reference_type.ReferenceType.TheVariants as kind

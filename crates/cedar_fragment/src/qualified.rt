@@ -9,13 +9,12 @@ ghost use Rattle.cedar_fragment.specs.Definitions.{bare_namespace, through_actio
 use crate::action_uid::ActionEntityUID;
 use crate::attributes_or_context::AttributesOrContext;
 use crate::definitions::{ActionType, ApplySpec, EntityType, NamespaceDefinition};
-use cedar_json_fault::{ConditionalName, Qualifying, RawName, walk_unrefused};
+use cedar_json_fault::{ConditionalName, RawName, qualify_names};
 use cedar_types::{InternalName, Mem};
 use std::alloc::Global;
 
 impl NamespaceDefinition<RawName> {
     /// The definitions with the full names that each name may stand for in the namespace `ns`. All else stays, places too.
-    #[tactic(auto, using(crate::proofs::Same::same))]
     pub fn conditionally_qualify_type_references(
         self,
         alloc: Global,
@@ -26,7 +25,7 @@ impl NamespaceDefinition<RawName> {
             (qualifying (option_copied ns.entry)) self) }
         ensures same { IfOk result (λ made. bare_namespace made ≡ bare_namespace self) }
     {
-        walk_unrefused(alloc, &Qualifying::new(alloc, ns)?, self)
+        qualify_names(alloc, ns, self)
     }
 }
 
@@ -39,7 +38,7 @@ impl EntityType<RawName> {
     ) -> Mem<EntityType<ConditionalName>>
         ensures { Makes result (through_entity (qualifying (option_copied ns.entry)) self) }
     {
-        walk_unrefused(alloc, &Qualifying::new(alloc, ns)?, self)
+        qualify_names(alloc, ns, self)
     }
 }
 
@@ -52,7 +51,7 @@ impl AttributesOrContext<RawName> {
     ) -> Mem<AttributesOrContext<ConditionalName>>
         ensures { Makes result (through_shape (qualifying (option_copied ns.entry)) self) }
     {
-        walk_unrefused(alloc, &Qualifying::new(alloc, ns)?, self)
+        qualify_names(alloc, ns, self)
     }
 }
 
@@ -66,7 +65,7 @@ impl ActionType<RawName> {
         ensures { Makes result
             (through_action over_raw over_conditional (qualifying (option_copied ns.entry)) self) }
     {
-        walk_unrefused(alloc, &Qualifying::new(alloc, ns)?, self)
+        qualify_names(alloc, ns, self)
     }
 }
 
@@ -79,7 +78,7 @@ impl ApplySpec<RawName> {
     ) -> Mem<ApplySpec<ConditionalName>>
         ensures { Makes result (through_apply (qualifying (option_copied ns.entry)) self) }
     {
-        walk_unrefused(alloc, &Qualifying::new(alloc, ns)?, self)
+        qualify_names(alloc, ns, self)
     }
 }
 
@@ -93,6 +92,6 @@ impl ActionEntityUID<RawName> {
         ensures { Makes result
             (through_uid over_raw over_conditional (qualifying (option_copied ns.entry)) self) }
     {
-        walk_unrefused(alloc, &Qualifying::new(alloc, ns)?, self)
+        qualify_names(alloc, ns, self)
     }
 }

@@ -11,7 +11,7 @@ use Rattle.cedar_print.specs.of_data.Maps.{map_values}
 use Rattle.cedar_written.specs.Answers.{and_then, all_items, all_values, in_option}
 use Rattle.cedar_written.specs.References.{Refs, first_refusal, references, references_of_variant, references_of_record, references_of_attribute, references_of_names, type_refs, variant_refs, record_refs, attribute_refs}
 use Rattle.cedar_written.specs.Through.{through_names, through_type, through_variant, through_record, through_attribute}
-use Rattle.cedar_written.specs.Reference.{Reference, named, parent}
+use Rattle.cedar_written.specs.Reference.{Reference, named}
 use Rattle.cedar_written.specs.declared.reference_type.ReferenceType.{ReferenceType}
 use Rattle.cedar_written.specs.declared.reference_type.ReferenceType.TheVariants as kind
 use Rattle.cedar_written.specs.declared.ty.SchemaType.{SchemaType}

@@ -7,10 +7,9 @@ use Rattle.std.specs.declared.result.Result.TheVariants.{Ok, Err}
 use Rattle.cedar_print.specs.of_data.Maps.{map_values}
 use Rattle.cedar_written.specs.Answers.{and_then, all_items, all_values, in_option}
 use Rattle.cedar_written.specs.Through.{through_names, through_type, through_variant, through_record, through_attribute}
-use Rattle.cedar_written.specs.Reference.{Reference, named, parent, renamed}
+use Rattle.cedar_written.specs.Reference.{Reference, named, renamed}
 use Rattle.cedar_written.specs.declared.reference_type.ReferenceType.{ReferenceType}
 use Rattle.cedar_written.specs.declared.reference_type.ReferenceType.TheVariants as kind
-use Rattle.cedar_print.specs.of_names.declared.annotation.Annotations.{Annotations}
 use Rattle.cedar_written.specs.declared.ty.SchemaType.{SchemaType}
 use Rattle.cedar_written.specs.declared.ty.SchemaType.TheVariants as type
 use Rattle.cedar_written.specs.declared.ty.TypeVariant.{TypeVariant}

@@ -4,6 +4,7 @@ pub mod FirstRefusal
 pub mod Found
 pub mod Goes
 pub mod Keeps
+pub mod Made
 pub mod Names
 pub mod Possible
 pub mod Printing

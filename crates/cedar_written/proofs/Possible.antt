@@ -7,7 +7,6 @@ use Rattle.cedar_print.specs.of_names.Components.{internal_name, qualified, qual
 use Rattle.cedar_print.specs.of_names.declared.id.Id.{Id}
 use Rattle.cedar_print.specs.of_names.declared.internal_name.InternalName.{InternalName}
 use Rattle.cedar_written.specs.Possibilities.{conditional, conditional_in, ids_of, leading, possibilities, possibilities_in, reference, written}
-use Rattle.cedar_written.specs.declared.conditional_name.ConditionalName.{ConditionalName}
 use Rattle.cedar_written.specs.declared.raw_name.RawName.{RawName}
 use Rattle.cedar_written.specs.declared.reference_type.ReferenceType.{ReferenceType}
 

@@ -3,7 +3,7 @@
 use Rattle.std.specs.Prelude.{ℕ, Bool, true, false, List, [], ◌∷◌, ◌++◌, codes}
 use Rattle.cedar_print.specs.of_names.Identifiers.{unreserved_word}
 use Rattle.cedar_print.specs.Annotations.{annotations_pieces}
-use Rattle.cedar_print.specs.Pieces.{Piece, Pieces, word, mark, quoted, name, blank, space, named, separated}
+use Rattle.cedar_print.specs.Pieces.{Pieces, word, mark, quoted, blank, space, named, separated}
 use Rattle.cedar_written.specs.declared.ty.SchemaType.{SchemaType, fold-SchemaType}
 use Rattle.cedar_written.specs.declared.ty.SchemaType.TheOpen as layer
 use Rattle.cedar_written.specs.declared.ty.SchemaType.TheOpen.{SchemaType-F, TypeVariant-F, RecordType-F, TypeOfAttribute-F}

@@ -7,6 +7,7 @@ mod common_type_id;
 mod conditional_name;
 mod display;
 mod laws;
+mod qualified;
 mod qualifying;
 mod raw_name;
 mod ref_name;
@@ -18,10 +19,15 @@ mod type_copies;
 mod walk;
 mod walked;
 
-pub use cedar_print::{Dup, EntityType, EntityUID, InternalName, Items, Loc, Map, MapKeys, Mem, NameFault, NonEmpty, Quoted, Set, SetIter, Span, Text, UnreservedId, dup_four, dup_three, dup_two, write_annotations, write_item, write_list, write_quoted_list};
+pub use cedar_print::{
+    Dup, EntityType, EntityUID, InternalName, Items, Loc, Map, MapKeys, Mem, NameFault, NonEmpty,
+    Quoted, Set, SetIter, Span, Text, UnreservedId, dup_four, dup_three, dup_two,
+    write_annotations, write_item, write_list, write_quoted_list,
+};
 pub use common_type_id::{CommonTypeId, ReservedCommonTypeBasenameError};
 pub use conditional_name::ConditionalName;
 pub use laws::types_are_walked_in_order;
+pub use qualified::qualify_names;
 pub use qualifying::{Never, Qualifying, type_or_action, walk_unrefused};
 pub use raw_name::RawName;
 pub use ref_name::RefName;

@@ -11,6 +11,7 @@ ghost use Rattle.cedar_written.specs.Reference.{parent};
 ghost use Rattle.cedar_written.specs.Through.{through_attribute, through_record, through_type, through_variant};
 
 use crate::conditional_name::ConditionalName;
+use crate::qualified::qualify_names;
 use crate::raw_name::{RawName, namespace_within};
 use crate::reference_type::ReferenceType;
 use crate::step::Step;
@@ -123,7 +124,7 @@ impl SchemaType<RawName> {
         ensures answer { Makes result (through_type (qualifying (option_copied ns.entry)) self) }
         ensures same { IfOk result (λ made. bare_type made ≡ bare_type self) }
     {
-        walk_unrefused(alloc, &Qualifying::new(alloc, ns)?, self)
+        qualify_names(alloc, ns, self)
     }
 }
 
@@ -136,7 +137,7 @@ impl TypeVariant<RawName> {
     ) -> Mem<TypeVariant<ConditionalName>>
         ensures { Makes result (through_variant (qualifying (option_copied ns.entry)) self) }
     {
-        walk_unrefused(alloc, &Qualifying::new(alloc, ns)?, self)
+        qualify_names(alloc, ns, self)
     }
 }
 
@@ -149,7 +150,7 @@ impl RecordType<RawName> {
     ) -> Mem<RecordType<ConditionalName>>
         ensures { Makes result (through_record (qualifying (option_copied ns.entry)) self) }
     {
-        walk_unrefused(alloc, &Qualifying::new(alloc, ns)?, self)
+        qualify_names(alloc, ns, self)
     }
 }
 
@@ -162,6 +163,6 @@ impl TypeOfAttribute<RawName> {
     ) -> Mem<TypeOfAttribute<ConditionalName>>
         ensures { Makes result (through_attribute (qualifying (option_copied ns.entry)) self) }
     {
-        walk_unrefused(alloc, &Qualifying::new(alloc, ns)?, self)
+        qualify_names(alloc, ns, self)
     }
 }

@@ -1,0 +1,9 @@
+-- SPDX-License-Identifier: Apache-2.0
+use Rattle.std.specs.Option.{option_copied}
+use Rattle.cedar_written.specs.Qualifying.{qualifying}
+use Rattle.cedar_written.proofs.Made.{made_in}
+use Rattle.cedar_fragment.specs.Definitions.{through_shape}
+use Rattle.cedar_fragment.proofs.qualified.AttributesOrContext+RawName.conditionally_qualify_type_references.Goals as goal
+
+pub returns : goal.returns
+returns c = made_in (λ s. option_copied s.namespace) (λ ns. through_shape (qualifying ns) c.args.self) (option_copied c.args.ns) c.qualify_names.result c.qualify_names.ensures
