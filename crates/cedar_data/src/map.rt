@@ -15,6 +15,7 @@ use crate::dup::Dup;
 use crate::entries::Entries;
 use crate::map_iter::{MapIntoIter, MapIter, MapKeys, MapValues};
 use crate::memory::Mem;
+use crate::near::Near;
 use crate::text::Text;
 use std::alloc::Global;
 use std::cmp::Ordering;
@@ -78,6 +79,14 @@ impl<K: Ord, V> Map<K, V> {
         ensures { option_copied result ≡ get K.cmp self.now key.now }
     {
         self.map.get(key)
+    }
+
+    /// As `get`, in few steps where the keys of the searches ascend: each begins where the last one ended, which `near`
+    /// tells. It makes no difference to what is found.
+    pub fn get_near(&self, near: &mut Near, key: &K) -> Option<&V>
+        ensures { option_copied result ≡ get K.cmp self.now key.now }
+    {
+        self.map.get_near(near, key)
     }
 
     /// The first entry whose key is greater than `key`.
