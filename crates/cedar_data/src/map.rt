@@ -103,6 +103,13 @@ impl<K: Ord, V> Map<K, V> {
         self.map.get(key).is_some()
     }
 
+    /// As `contains_key`, in few steps where the keys of the searches ascend.
+    pub fn contains_near(&self, near: &mut Near, key: &K) -> bool
+        ensures { result ≡ is_some (get K.cmp self.now key.now) }
+    {
+        self.map.get_near(near, key).is_some()
+    }
+
     /// The entries, in the order of the keys.
     pub fn iter(&self) -> MapIter<'_, K, V>
         ensures rest { result ≡ self.now }
