@@ -5,7 +5,7 @@ ghost use Rattle.std.specs.Option.{option_copied};
 ghost use Rattle.cedar_data.specs.Maps.{get, IsSortedMap};
 ghost use Rattle.cedar_data.specs.Places.{StandsAt, BelongsAt, HasValue, compared};
 ghost use Rattle.cedar_data.specs.Runs.{all_runs, begins_by, AreRuns, IsRunOf};
-ghost use Rattle.std.specs.declared.cmp.Ordering.TheVariants.{Greater};
+ghost use Rattle.std.specs.declared.cmp.Ordering.TheVariants.{Greater, Less};
 
 use crate::entries::run_of;
 use crate::run::Run;
@@ -55,6 +55,24 @@ impl<K: Ord, V> Run<K, V> {
         }
     }
 
+    /// Where the key stands, or else where it would be put. The entry at the index has a less key, and the one behind it
+    /// is looked at first.
+    fn place_behind(&self, near: usize, key: &K) -> Result<usize, usize>
+        requires ordered { IsSortedMap K.cmp self.now }
+        requires counted { length self.now < 2 ^ 64 }
+        requires within { near < length self.now }
+        requires less { compared K.cmp key.now (slice_get self.now near) ≡ Less }
+        ensures found { IfOk result (λ at. StandsAt K.cmp self.now key.now at) }
+        ensures missing { IfErr result (λ at. BelongsAt K.cmp self.now key.now at) }
+    {
+        let behind = near + 1;
+        match self.compared(behind, key) {
+            Ordering::Less => self.place(key),
+            Ordering::Equal => Ok(behind),
+            Ordering::Greater => Err(behind),
+        }
+    }
+
     /// Where the key stands, or else where it would be put. The entries around the index are looked at first.
     fn place_near(&self, near: usize, key: &K) -> Result<usize, usize>
         ensures found { IfOk result (λ at. StandsAt K.cmp self.now key.now at) }
@@ -63,7 +81,7 @@ impl<K: Ord, V> Run<K, V> {
     {
         let near = near.min(self.len());
         match self.compared(near, key) {
-            Ordering::Less => self.place(key),
+            Ordering::Less => self.place_behind(near, key),
             Ordering::Equal => Ok(near),
             Ordering::Greater => self.place_before(near, key),
         }
