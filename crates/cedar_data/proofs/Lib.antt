@@ -16,3 +16,4 @@ pub mod RunEdits
 pub mod SetKeys
 pub mod Puts
 pub mod RunAppend
+pub mod Nearby

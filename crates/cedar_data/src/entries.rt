@@ -10,6 +10,7 @@ ghost use Rattle.cedar_data.specs.Runs.{all_runs, begins_by, first_after, AreRun
 
 use crate::entries_iter::{EntriesIntoIter, EntriesIter};
 use crate::memory::{Mem, NoMemory};
+use crate::near::{Near, get_among};
 use crate::run::{MOST, Run};
 use std::alloc::Global;
 use std::marker::Model;
@@ -45,7 +46,7 @@ impl<K: Ord, V> Model for Entries<K, V> {
 }
 
 /// The run that holds `key`, if any does, and into which it would be put.
-fn run_of<K: Ord, V>(runs: &[Run<K, V>], key: &K) -> usize
+pub(crate) fn run_of<K: Ord, V>(runs: &[Run<K, V>], key: &K) -> usize
     requires { AreRuns K.cmp runs.now }
     ensures within { result < length runs.now }
     ensures of { IsRunOf K.cmp runs.now key.now result }
@@ -289,6 +290,18 @@ impl<K: Ord, V> Entries<K, V> {
         match &self.held {
             Held::One(run) => run.get(key),
             Held::Several(runs) => runs[run_of(runs.as_slice(), key)].get(key),
+        }
+    }
+
+    /// The value at the key that is equal to `key`. The search begins near the place, which is then that of the next
+    /// entry.
+    #[tactic(auto, unfolding(crate::specs::EntriesHeld::IsHeld))]
+    pub(crate) fn get_near(&self, near: &mut Near, key: &K) -> Option<&V>
+        ensures { option_copied result ≡ get K.cmp self.now key.now }
+    {
+        match &self.held {
+            Held::One(run) => run.get_near(&mut near.at, key),
+            Held::Several(runs) => get_among(runs.as_slice(), near, key),
         }
     }
 

@@ -15,6 +15,7 @@ use crate::dup::Dup;
 use crate::entries::Entries;
 use crate::map_iter::{MapIntoIter, MapIter, MapKeys, MapValues};
 use crate::memory::Mem;
+use crate::near::Near;
 use crate::text::Text;
 use std::alloc::Global;
 use std::cmp::Ordering;
@@ -80,6 +81,14 @@ impl<K: Ord, V> Map<K, V> {
         self.map.get(key)
     }
 
+    /// As `get`, in few steps where the keys of the searches ascend: each begins where the last one ended, which `near`
+    /// tells. It makes no difference to what is found.
+    pub fn get_near(&self, near: &mut Near, key: &K) -> Option<&V>
+        ensures { option_copied result ≡ get K.cmp self.now key.now }
+    {
+        self.map.get_near(near, key)
+    }
+
     /// The first entry whose key is greater than `key`.
     pub fn after(&self, key: &K) -> Option<(&K, &V)>
         ensures { option_map (λ e. (e.0.now, e.1.now)) result ≡ first_after K.cmp key.now self.now }
@@ -92,6 +101,13 @@ impl<K: Ord, V> Map<K, V> {
         ensures { result ≡ is_some (get K.cmp self.now key.now) }
     {
         self.map.get(key).is_some()
+    }
+
+    /// As `contains_key`, in few steps where the keys of the searches ascend.
+    pub fn contains_near(&self, near: &mut Near, key: &K) -> bool
+        ensures { result ≡ is_some (get K.cmp self.now key.now) }
+    {
+        self.map.get_near(near, key).is_some()
     }
 
     /// The entries, in the order of the keys.

@@ -114,7 +114,7 @@ impl<K: Ord, V> Run<K, V> {
     }
 
     /// Where the key stands, or else where it would be put.
-    fn place(&self, key: &K) -> Result<usize, usize>
+    pub(crate) fn place(&self, key: &K) -> Result<usize, usize>
         ensures found { IfOk result (λ at. StandsAt K.cmp self.now key.now at) }
         ensures missing { IfErr result (λ at. BelongsAt K.cmp self.now key.now at) }
         ensures counted { length self.now < 2 ^ 64 }

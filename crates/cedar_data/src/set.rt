@@ -12,6 +12,7 @@ use crate::dup::Dup;
 use crate::entries::Entries;
 use crate::entries_iter::EntriesIter;
 use crate::memory::Mem;
+use crate::near::Near;
 use std::alloc::Global;
 use std::cmp::Ordering;
 use std::iter::{ExactSizeIterator, Iterator};
@@ -106,6 +107,14 @@ impl<K: Ord> Set<K> {
         ensures { result ≡ contains K.cmp self.now key.now }
     {
         self.keys.get(key).is_some()
+    }
+
+    /// As `contains`, in few steps where the keys of the searches ascend: each begins where the last one ended, which
+    /// `near` tells. It makes no difference to the answer.
+    pub fn contains_near(&self, near: &mut Near, key: &K) -> bool
+        ensures { result ≡ contains K.cmp self.now key.now }
+    {
+        self.keys.get_near(near, key).is_some()
     }
 
     /// The keys, in their order.

@@ -19,7 +19,7 @@ pub use annotation::{Annotation, AnnotationIter, Annotations};
 pub use any_id::AnyId;
 pub use cedar_text::{
     BadEscape, Boxed, Dup, Escaped, EscapedByte, Failure, Items, Loc, Map, MapIter, MapKeys, Mem,
-    NameFault, NoMemory, Node, NonEmpty, NonEmptyIter, Out, Set, SetIter, Shared, Span, Text,
+    NameFault, Near, NoMemory, Node, NonEmpty, NonEmptyIter, Out, Set, SetIter, Shared, Span, Text,
     dup_four, dup_three, dup_two, escape, is_cedar, literal_makes_an_entity, unescape,
     unescape_undoes_escape, words_make_a_name,
 };

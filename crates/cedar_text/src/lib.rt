@@ -15,8 +15,8 @@ mod unescaping;
 mod words;
 
 pub use cedar_data::{
-    Boxed, Dup, Failure, Items, Map, MapIter, MapKeys, Mem, NoMemory, Out, Set, SetIter, Shared,
-    Text, dup_four, dup_three, dup_two,
+    Boxed, Dup, Failure, Items, Map, MapIter, MapKeys, Mem, Near, NoMemory, Out, Set, SetIter,
+    Shared, Text, dup_four, dup_three, dup_two,
 };
 pub use collecting::{Convert, collect, collect_map, push_all, push_elements};
 pub use escapes::{Escaped, EscapedByte, escape};
