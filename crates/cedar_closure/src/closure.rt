@@ -10,7 +10,7 @@ ghost use Rattle.cedar_closure.specs.Marks.{LeadWithin};
 ghost use Rattle.cedar_closure.specs.Places.{AreKeysOf, Chained, place, rows_at};
 ghost use Rattle.cedar_closure.specs.declared.tc_error.TcError.TheVariants.{HasCycle};
 
-use crate::key_graph::{keys_of_nodes, place, rows_of_nodes};
+use crate::key_graph::{keys_of_nodes, place_near, rows_of_nodes};
 use crate::reachable::reached_from;
 use crate::tc_error::TcError;
 use crate::tc_node::{TcKey, TcNode};
@@ -115,8 +115,9 @@ fn close_nodes<K: TcKey, V: TcNode<K>>(
         ((vertex : K) × (error ≡ HasCycle vertex) × IsLeastOnCycle K.cmp V.edges nodes vertex)) }
 {
     let mut closed = Map::with_room(alloc, nodes.len())?;
+    let mut last = 0;
     for (key, mut node) in nodes.into_entries() {
-        let returns = close_any_edges(alloc, keys, rows, marks, &key, &mut node)?;
+        let returns = close_any_edges(alloc, keys, rows, marks, &mut last, &key, &mut node)?;
         if returns && enforce_dag {
             return Err(Failure::Refused(TcError::HasCycle { vertex: key }));
         }
@@ -139,6 +140,7 @@ fn close_any_edges<K: TcKey, V: TcNode<K>>(
     keys: &[K],
     rows: &[Items<usize>],
     marks: &mut [usize],
+    last: &mut usize,
     key: &K,
     node: &mut V,
 ) -> Mem<bool>
@@ -162,8 +164,10 @@ fn close_any_edges<K: TcKey, V: TcNode<K>>(
         (IsSomeAnd (place K.cmp keys.now key.now) (λ at. All (λ mark. mark ≤ at + 1) marks.new)) }
 {
     if has_edge(node) {
-        return close_node(alloc, keys, rows, marks, key, node);
+        return close_node(alloc, keys, rows, marks, last, key, node);
     }
+    // the next key stands behind this one
+    *last = last.saturating_add(1);
     Ok(false)
 }
 
@@ -173,6 +177,7 @@ fn close_node<K: TcKey, V: TcNode<K>>(
     keys: &[K],
     rows: &[Items<usize>],
     marks: &mut [usize],
+    last: &mut usize,
     key: &K,
     node: &mut V,
 ) -> Mem<bool>
@@ -193,7 +198,7 @@ fn close_node<K: TcKey, V: TcNode<K>>(
     ensures latest { OnOk result
         (IsSomeAnd (place K.cmp keys.now key.now) (λ at. All (λ mark. mark ≤ at + 1) marks.new)) }
 {
-    let Some(at) = place(keys, key) else {
+    let Some(at) = place_near(keys, last, key) else {
         unreachable!()
     };
     let found = reached_from(alloc, rows, at, marks)?;

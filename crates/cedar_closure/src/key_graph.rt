@@ -1,5 +1,5 @@
 // SPDX-License-Identifier: Apache-2.0
-ghost use Rattle.std.specs.Prelude.{◌≡◌, ◌∷◌, ◌++◌, [], All, IfOk, OnOk};
+ghost use Rattle.std.specs.Prelude.{◌≡◌, ◌∷◌, ◌++◌, [], true, Some, All, IfOk, OnOk};
 ghost use Rattle.std.specs.List.{filter_map};
 ghost use Rattle.std.specs.List.Sorted.{IsStrictlySortedBy};
 ghost use Rattle.std.specs.Map.{keys_of};
@@ -8,7 +8,7 @@ ghost use Rattle.cedar_names.specs.of_data.Sets.{Adds};
 ghost use Rattle.cedar_closure.specs.Places.{PutsInOrder, AddsBeside, NamesBeside, AreKeysOf, place, row_at, rows_at};
 
 use crate::tc_node::{TcKey, TcNode};
-use cedar_names::{Items, Map, Mem, Set};
+use cedar_names::{Items, Map, Mem, Near, Set};
 use std::alloc::Global;
 use std::collections::BTreeSet;
 
@@ -33,8 +33,9 @@ fn other_targets<K: TcKey, V: TcNode<K>>(alloc: Global, nodes: &Map<K, V>) -> Me
         (All (λ entry. IsStrictlySortedBy K.cmp (V.edges entry.1)) nodes.now) }
 {
     let mut others = Set::new(alloc);
+    let mut near = Near::first();
     for (_, node) in nodes.iter() {
-        add_other_targets(alloc, nodes, node, &mut others)?;
+        add_other_targets(alloc, nodes, node, &mut near, &mut others)?;
     }
     Ok(others)
 }
@@ -44,6 +45,7 @@ fn add_other_targets<K: TcKey, V: TcNode<K>>(
     alloc: Global,
     nodes: &Map<K, V>,
     node: &V,
+    near: &mut Near,
     others: &mut Set<K>,
 ) -> Mem<()>
     ensures adds { OnOk result
@@ -51,7 +53,7 @@ fn add_other_targets<K: TcKey, V: TcNode<K>>(
     ensures ordered { IsStrictlySortedBy K.cmp (V.edges node.now) }
 {
     for key in node.out_edges() {
-        add_other_target(alloc, nodes, key, others)?;
+        add_other_target(alloc, nodes, key, near, others)?;
     }
     Ok(())
 }
@@ -62,12 +64,13 @@ fn add_other_target<K: TcKey, V: TcNode<K>>(
     alloc: Global,
     nodes: &Map<K, V>,
     key: &K,
+    near: &mut Near,
     others: &mut Set<K>,
 ) -> Mem<()>
     ensures { OnOk result (AddsBeside K.cmp (keys_of nodes.now) others.old others.new (key.now
         ∷ [])) }
 {
-    if !nodes.contains_key(key) {
+    if !nodes.contains_near(near, key) {
         add_key(alloc, others, key)?;
     }
     Ok(())
@@ -121,7 +124,7 @@ fn in_order<K: Ord + Drop>(alloc: Global, keys: Vec<K>) -> Mem<Vec<K>>
 }
 
 /// The position of the key among keys in order.
-pub(crate) fn place<K: Ord>(keys: &[K], key: &K) -> Option<usize>
+fn place<K: Ord>(keys: &[K], key: &K) -> Option<usize>
     requires { IsStrictlySortedBy K.cmp keys.now }
     ensures { result ≡ place K.cmp keys.now key.now }
 {
@@ -129,6 +132,35 @@ pub(crate) fn place<K: Ord>(keys: &[K], key: &K) -> Option<usize>
         Ok(at) => Some(at),
         Err(_) => None,
     }
+}
+
+/// Whether the key stands at the position.
+fn stands_at<K: Ord>(keys: &[K], at: usize, key: &K) -> bool
+    requires { IsStrictlySortedBy K.cmp keys.now }
+    ensures { (result ≡ true) → place K.cmp keys.now key.now ≡ Some at }
+{
+    match keys.get(at) {
+        Some(other) => other.cmp(key).is_eq(),
+        None => false,
+    }
+}
+
+/// The position of the key among keys in order. Where the last one was found, and behind it, is looked first.
+pub(crate) fn place_near<K: Ord>(keys: &[K], last: &mut usize, key: &K) -> Option<usize>
+    requires { IsStrictlySortedBy K.cmp keys.now }
+    ensures { result ≡ place K.cmp keys.now key.now }
+{
+    if stands_at(keys, *last, key) {
+        return Some(*last);
+    }
+    let next = last.saturating_add(1);
+    let at = if stands_at(keys, next, key) {
+        next
+    } else {
+        place(keys, key)?
+    };
+    *last = at;
+    Some(at)
 }
 
 /// For each key in order, the positions to which the edges of its node lead.
@@ -141,8 +173,10 @@ pub(crate) fn rows_of_nodes<K: TcKey, V: TcNode<K>>(
     ensures { IfOk result (λ rows. rows.items ≡ rows_at K.cmp V.edges nodes.now keys.now) }
 {
     let mut rows = Vec::with_capacity(alloc, keys.len())?;
+    let mut near = Near::first();
+    let mut last = 0;
     for key in keys {
-        let row = row_at_key(alloc, nodes, keys, key)?;
+        let row = row_at_key(alloc, nodes, keys, key, &mut near, &mut last)?;
         rows.push(row)?;
     }
     Ok(rows)
@@ -154,24 +188,31 @@ fn row_at_key<K: TcKey, V: TcNode<K>>(
     nodes: &Map<K, V>,
     keys: &[K],
     key: &K,
+    near: &mut Near,
+    last: &mut usize,
 ) -> Mem<Items<usize>>
     requires { IsStrictlySortedBy K.cmp keys.now }
     ensures { IfOk result (λ row. row ≡ row_at K.cmp V.edges nodes.now keys.now key.now) }
 {
-    match nodes.get(key) {
-        Some(node) => row_of_node(alloc, node, keys),
+    match nodes.get_near(near, key) {
+        Some(node) => row_of_node(alloc, node, keys, last),
         None => Ok(Items::new(alloc)),
     }
 }
 
-/// The positions to which the edges of the node lead.
-fn row_of_node<K: TcKey, V: TcNode<K>>(alloc: Global, node: &V, keys: &[K]) -> Mem<Items<usize>>
+/// The positions to which the edges of the node lead. Where the last edge led is looked first.
+fn row_of_node<K: TcKey, V: TcNode<K>>(
+    alloc: Global,
+    node: &V,
+    keys: &[K],
+    last: &mut usize,
+) -> Mem<Items<usize>>
     requires { IsStrictlySortedBy K.cmp keys.now }
     ensures { IfOk result (λ row. row ≡ filter_map (place K.cmp keys.now) (V.edges node.now)) }
 {
     let mut row = Items::new(alloc);
     for edge in node.out_edges() {
-        if let Some(at) = place(keys, edge) {
+        if let Some(at) = place_near(keys, last, edge) {
             row.push(at)?;
         }
     }

@@ -12,7 +12,7 @@ use Rattle.cedar_closure.proofs.closure.close_node.Goals as goal
 
 pub reached_from-requires : goal.reached_from-requires
 reached_from-requires g c =
-    let is : place g.K.Ord.cmp c.args.keys.now c.args.key.now ≡ Some c.in-Some.at = sym c.place.ensures ∙ c.in-Some.is in
+    let is : place g.K.Ord.cmp c.args.keys.now c.args.key.now ≡ Some c.in-Some.at = sym c.place_near.ensures ∙ c.in-Some.is in
     let (inside, _, _) = position-Some (is_at (g.K.Ord.cmp c.args.key.now)) c.args.keys.now c.in-Some.at c.args.key.now is in
     record {
       within = c.requires.within;
@@ -35,17 +35,17 @@ returns-clause-leads g c =
     let leads = c.in_ok-add_edges_to.ensures.leads in
     let found = c.as_slice.ensures.value in
     λ to. either_iff (leads to)
-    (chained_found c.args.rows.now c.as_slice.result.now c.in-Some.at (place cmp keys c.args.key.now) (place cmp keys to) (sym c.place.ensures ∙ c.in-Some.is)
+    (chained_found c.args.rows.now c.as_slice.result.now c.in-Some.at (place cmp keys c.args.key.now) (place cmp keys to) (sym c.place_near.ensures ∙ c.in-Some.is)
     (subst (λ l. (j : ℕ) → Contains l j ↔ Reaches (Leads c.args.rows.now) c.in-Some.at j) (sym found) c.in_ok-found.ensures.reached))
 
 pub returns-clause-returns : goal.returns-clause-returns
 returns-clause-returns g c =
     let found = c.in_ok-found.found.items in
     let at = c.in-Some.at in
-    let is : place g.K.Ord.cmp c.args.keys.now c.args.key.now ≡ Some at = sym c.place.ensures ∙ c.in-Some.is in
+    let is : place g.K.Ord.cmp c.args.keys.now c.args.key.now ≡ Some at = sym c.place_near.ensures ∙ c.in-Some.is in
     let answer = contains_iff found at c.contains.result (c.contains.ensures.value ∙ ap (list_any (λ y. eqb y at)) c.deref.ensures.value) in
     let chains = chained_found c.args.rows.now found at (place g.K.Ord.cmp c.args.keys.now c.args.key.now) (place g.K.Ord.cmp c.args.keys.now c.args.key.now) is c.in_ok-found.ensures.reached in
     (λ h. chains.0 (some_and (place g.K.Ord.cmp c.args.keys.now c.args.key.now) (Contains found) at is (answer.0 h)), λ h. answer.1 (at_some (Contains found) is (chains.1 h)))
 
 pub returns-clause-latest : goal.returns-clause-latest
-returns-clause-latest g c = some_and (place g.K.Ord.cmp c.args.keys.now c.args.key.now) (λ at. All (λ mark. mark ≤ at + 1) c.reached_from.new.marks) c.in-Some.at (sym c.place.ensures ∙ c.in-Some.is) c.in_ok-found.ensures.latest
+returns-clause-latest g c = some_and (place g.K.Ord.cmp c.args.keys.now c.args.key.now) (λ at. All (λ mark. mark ≤ at + 1) c.reached_from.new.marks) c.in-Some.at (sym c.place_near.ensures ∙ c.in-Some.is) c.in_ok-found.ensures.latest
