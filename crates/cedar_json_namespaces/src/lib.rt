@@ -6,5 +6,5 @@
 mod maps;
 mod namespaces;
 
-pub use cedar_json_read::{ReadDeclaration};
+pub use cedar_json_read::ReadDeclaration;
 pub use namespaces::{read_fragment, read_namespace};
