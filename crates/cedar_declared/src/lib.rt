@@ -9,6 +9,7 @@ mod gathered;
 mod laws;
 mod listed;
 mod name_set;
+mod recalled;
 mod resolve;
 mod resolving;
 mod spaces;

@@ -5,7 +5,7 @@ ghost use Rattle.cedar_data.specs.Places.{StandsAt, BelongsAt};
 ghost use Rattle.cedar_names.specs.Components.{namespace_of};
 ghost use Rattle.cedar_declared.specs.Basenames.{PutsName, in_spaces, space_cmp};
 
-use cedar_data::{Dup, Items, Mem, Set};
+use cedar_data::{Dup, Items, Mem, Near, Set};
 use cedar_names::{Id, InternalName};
 use std::alloc::Global;
 use std::cell::Cell;
@@ -18,6 +18,8 @@ pub(crate) struct Spaces {
     spaces: Vec<(Items<Id>, Set<Id>)>,
     /// Where a namespace was found last. The next one that is looked for is mostly the same.
     recent: Cell<usize>,
+    /// Where a basename was looked for last.
+    near: Cell<Near>,
 }
 
 impl Model for Spaces {
@@ -52,6 +54,7 @@ impl Spaces {
         Spaces {
             spaces: Vec::new(alloc),
             recent: Cell::new(0),
+            near: Cell::new(Near::first()),
         }
     }
 
@@ -96,7 +99,12 @@ impl Spaces {
         ensures { result ≡ in_spaces self.now name.now }
     {
         match self.place(name.namespace_components().as_slice()) {
-            Ok(at) => self.spaces[at].1.contains(name.basename()),
+            Ok(at) => {
+                let mut near = self.near.get();
+                let found = self.spaces[at].1.contains_near(&mut near, name.basename());
+                self.near.set(near);
+                found
+            }
             Err(_) => false,
         }
     }
@@ -133,6 +141,7 @@ impl Dup for Spaces {
         Ok(Spaces {
             spaces,
             recent: Cell::new(0),
+            near: Cell::new(Near::first()),
         })
     }
 }

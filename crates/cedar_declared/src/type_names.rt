@@ -7,14 +7,15 @@ ghost use Rattle.cedar_declared.specs.Held.{type_names};
 ghost use Rattle.cedar_declared.specs.TypeNames.{with_name};
 
 use crate::name_set::NameSet;
-use cedar_data::{Dup, Map, Mem};
+use crate::recalled::RecalledMap;
+use cedar_data::{Dup, Mem};
 use cedar_names::{Id, InternalName, Loc};
 use std::alloc::Global;
 
 /// Names of types. Those of one component are kept by it, so that it can be looked up without a name.
 #[derive(Debug, Drop)]
 pub(crate) struct TypeNames {
-    pub(crate) unqualified: Map<Id, Option<Loc>>,
+    pub(crate) unqualified: RecalledMap<Id, Option<Loc>>,
     pub(crate) qualified: NameSet,
 }
 
@@ -24,7 +25,7 @@ impl TypeNames {
         ensures { result ≡ record { unqualified = []; qualified = [] } }
     {
         TypeNames {
-            unqualified: Map::new(alloc),
+            unqualified: RecalledMap::new(alloc),
             qualified: NameSet::none(alloc),
         }
     }

@@ -14,7 +14,7 @@ returns-in-Ok c =
     let found : Some entry.1 ≡ get space_cmp c.args.self.now (namespace_of c.args.name.now) =
     ap (λ e. Some e.1) there ∙ sym (StandsAt-get spaces_total c.as_slice.result.now c.in-Ok.ensures.found entry)
     ∙ ap (get space_cmp c.args.self.now) (c.as_slice.ensures.value ∙ c.namespace_components.ensures) in
-    c.contains.ensures ∙ (λ i. is_among (found i) (c.basename.ensures i))
+    c.contains_near-found.ensures ∙ (λ i. is_among (found i) (c.basename.ensures i))
 
 pub returns-in-Err : goal.returns-in-Err
 returns-in-Err c =
