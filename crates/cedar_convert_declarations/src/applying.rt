@@ -10,7 +10,7 @@ ghost use Rattle.cedar_convert_fragment.specs.Views.{apply_seen, name_at, parent
 
 use crate::putting::add_raw_names;
 use cedar_convert_fragment::{raw_name_from_path, shape_declared};
-use cedar_data::{Items, Mem};
+use cedar_data::{Boxed, Items, Mem};
 use cedar_fragment::{ActionEntityUID, ApplySpec, AttributesOrContext, RawName};
 use cedar_text::{Node, NonEmpty, push_elements};
 use cedar_tree::{AppDecl, PR, PRAppDecl, QualName};
@@ -118,7 +118,7 @@ fn with_context(alloc: Global, applied: Applied) -> ApplySpec<RawName>
 /// The clauses of an `appliesTo`; where it is left out, none.
 fn clause_list(
     alloc: Global,
-    clauses: Option<Node<NonEmpty<Node<AppDecl>>>>,
+    clauses: Option<Boxed<Node<NonEmpty<Node<AppDecl>>>>>,
 ) -> Mem<Vec<Node<AppDecl>>>
     ensures { IfOk result (λ all. map (node_of app_tree) all.items ≡ clauses_of
         (option_map (node_of (λ lines. map (node_of app_tree) (elements lines))) clauses)) }
@@ -126,7 +126,7 @@ fn clause_list(
     match clauses {
         None => Ok(Vec::new(alloc)),
         Some(clauses) => {
-            let NonEmpty { head, tail } = clauses.node;
+            let NonEmpty { head, tail } = clauses.into_inner().node;
             let mut all = tail.into_vec();
             all.insert(0, head)?;
             Ok(all)
@@ -137,7 +137,7 @@ fn clause_list(
 /// What an `appliesTo` says; where it is left out, nothing. It fails only for want of memory.
 pub(crate) fn applies_declared(
     alloc: Global,
-    clauses: Option<Node<NonEmpty<Node<AppDecl>>>>,
+    clauses: Option<Boxed<Node<NonEmpty<Node<AppDecl>>>>>,
 ) -> Mem<ApplySpec<RawName>>
     ensures { IfOk result (λ made. apply_seen made ≡ applies_to (clauses_of
         (option_map (node_of (λ lines. map (node_of app_tree) (elements lines))) clauses))) }
@@ -160,7 +160,7 @@ fn parent_declared(parent: QualName) -> ActionEntityUID<RawName>
 /// The parents, if there are any. It fails only for want of memory.
 pub(crate) fn parents_declared(
     alloc: Global,
-    parents: Option<NonEmpty<Node<QualName>>>,
+    parents: Option<Boxed<NonEmpty<Node<QualName>>>>,
 ) -> Mem<Option<Items<ActionEntityUID<RawName>>>>
     ensures { IfOk result (λ made. option_map (map parent_seen) made
         ≡ parents_of (map (node_of qual_tree) (listed parents))) }
@@ -169,7 +169,7 @@ pub(crate) fn parents_declared(
         return Ok(None);
     };
     let mut all = Vec::new(alloc);
-    push_elements(parents, &mut all)?;
+    push_elements(parents.into_inner(), &mut all)?;
     let mut made = Items::new(alloc);
     for parent in all {
         made.push(parent_declared(parent.node))?;

@@ -13,7 +13,7 @@ ghost use Rattle.cedar_convert_fragment.specs.Views.{action_seen, actions_seen, 
 use crate::applying::{applies_declared, parents_declared};
 use crate::putting::{all_three, both, put_all, put_each, raw_names, some_texts, unreserved_ids};
 use cedar_convert_fragment::{shape_declared, type_declared};
-use cedar_data::{Items, Mem, Text};
+use cedar_data::{Boxed, Items, Mem, Text};
 use cedar_fragment::{
     ActionType, CommonType, CommonTypeId, EntityType, EntityTypeKind, RawName, SchemaType,
     StandardEntityType,
@@ -27,14 +27,14 @@ use cedar_tree::{
 use std::alloc::Global;
 
 /// The type that tags have, if there are any.
-fn tags_declared(alloc: Global, tags: Option<Node<Type>>) -> Mem<Option<SchemaType<RawName>>>
+fn tags_declared(alloc: Global, tags: Option<Boxed<Node<Type>>>) -> Mem<Option<SchemaType<RawName>>>
     ensures { IfOk result (λ made. option_map type_seen made
         ≡ option_map type_at (option_map (node_of type_tree) tags)) }
 {
     match tags {
         None => Ok(None),
         Some(ty) => {
-            let ty = type_declared(alloc, ty)?;
+            let ty = type_declared(alloc, ty.into_inner())?;
             Ok(Some(ty))
         }
     }
@@ -46,7 +46,7 @@ fn standard_declared(
     alloc: Global,
     parents: Items<Path>,
     shape: ContextDecl,
-    tags: Option<Node<Type>>,
+    tags: Option<Boxed<Node<Type>>>,
 ) -> Mem<EntityTypeKind<RawName>>
     ensures { IfOk result (λ made. kind_seen made ≡ Shaped (map name_of (map path_tree parents))
         (shape_type (context_tree shape))
@@ -126,8 +126,8 @@ pub fn add_entities(
 #[tactic(auto, using(crate::proofs::KindViews::acting))]
 fn acting_declared(
     alloc: Global,
-    clauses: Option<Node<NonEmpty<Node<AppDecl>>>>,
-    parents: Option<NonEmpty<Node<QualName>>>,
+    clauses: Option<Boxed<Node<NonEmpty<Node<AppDecl>>>>>,
+    parents: Option<Boxed<NonEmpty<Node<QualName>>>>,
     annotations: Annotations,
     loc: Loc,
 ) -> Mem<ActionType<RawName>>

@@ -1,10 +1,11 @@
 // SPDX-License-Identifier: Apache-2.0
-ghost use Rattle.std.specs.Prelude.{◌≡◌, ◌↔◌, ◌∷◌, [], map, flat_map, option_to_list, IfOk};
+ghost use Rattle.std.specs.Prelude.{◌≡◌, ◌↔◌, ◌∷◌, [], map, flat_map, option_map, option_to_list, IfOk};
 ghost use Rattle.cedar_names.specs.Identifiers.{id_word};
-ghost use Rattle.cedar_tree.specs.Meanings.{action_tree, alias_tree, annotated_tree, decl_tree, node_of};
+ghost use Rattle.cedar_text.specs.Lists.{elements};
+ghost use Rattle.cedar_tree.specs.Meanings.{action_tree, alias_tree, annotated_tree, app_tree, decl_tree, node_of};
 ghost use Rattle.cedar_tree.specs.Trees.{Action, Common};
 ghost use Rattle.cedar_convert_faults.specs.Conditions.{AreDeclared, AreSound};
-ghost use Rattle.cedar_convert_faults.specs.Faults.{action_faults, common_faults, declarations, entity_faults, faults_among, faults_of, name_faults};
+ghost use Rattle.cedar_convert_faults.specs.Faults.{action_faults, applies_faults, common_faults, declarations, entity_faults, faults_among, faults_of, name_faults};
 ghost use Rattle.cedar_convert_faults.specs.Gathering.{gathered_tree};
 ghost use Rattle.cedar_convert_faults.specs.Lists.{first_found};
 
@@ -13,9 +14,9 @@ use crate::clauses::applies_fault;
 use crate::entities::{add_entity_faults, find_repeat, reserved_name};
 use crate::gathering::Gathered;
 use cedar_convert_errors::{ReservedSchemaKeyword, ToJsonSchemaError};
-use cedar_data::{Dup, Items, Mem};
-use cedar_text::{Node, push_all};
-use cedar_tree::{ActionDecl, Annotated, Declaration, Id, TypeDecl, UnreservedId};
+use cedar_data::{Boxed, Dup, Items, Mem, Text};
+use cedar_text::{Node, NonEmpty, push_all};
+use cedar_tree::{ActionDecl, Annotated, AppDecl, Declaration, Id, TypeDecl, UnreservedId};
 use cedar_written::CommonTypeId;
 use std::alloc::Global;
 
@@ -48,15 +49,28 @@ fn common_fault(alloc: Global, decl: &TypeDecl) -> Mem<Option<ToJsonSchemaError>
     find_repeat(alloc, &decl.def.node)
 }
 
+/// What is wrong with the clauses of an `appliesTo` of actions, told of the one of this name, if anything is.
+fn clauses_fault(
+    alloc: Global,
+    name: &Node<Text>,
+    clauses: &Option<Boxed<Node<NonEmpty<Node<AppDecl>>>>>,
+) -> Mem<Option<ToJsonSchemaError>>
+    ensures { IfOk result (λ fault. option_to_list fault
+        ≡ flat_map (λ lines. applies_faults name.now lines.node) (option_to_list
+        (option_map (node_of (λ lines. map (node_of app_tree) (elements lines))) clauses.now))) }
+{
+    match clauses {
+        None => Ok(None),
+        Some(clauses) => applies_fault(alloc, name, &clauses.get().node),
+    }
+}
+
 /// What is wrong with a declaration of actions, if anything is.
 fn action_fault(alloc: Global, decl: &ActionDecl) -> Mem<Option<ToJsonSchemaError>>
     ensures { IfOk result (λ fault. option_to_list fault
         ≡ action_faults (Action (action_tree decl.now))) }
 {
-    match &decl.app_decls {
-        None => Ok(None),
-        Some(clauses) => applies_fault(alloc, &decl.names.head, &clauses.node),
-    }
+    clauses_fault(alloc, &decl.names.head, &decl.app_decls)
 }
 
 /// What is wrong with the entity types of these declarations.

@@ -11,7 +11,7 @@ ghost use Rattle.cedar_convert_faults.specs.TypeRepeats.{leftmost_repeat, repeat
 use crate::attributes::{leftmost_repeat, repeat_among};
 use crate::repeats::Repeat;
 use cedar_convert_errors::{DuplicateAttribute, ReservedName, ToJsonSchemaError};
-use cedar_data::{Dup, Mem};
+use cedar_data::{Boxed, Dup, Mem};
 use cedar_text::{Node, is_cedar};
 use cedar_tree::{ContextDecl, EntityDecl, Id, Type};
 use std::alloc::Global;
@@ -71,14 +71,14 @@ pub(crate) fn shape_fault(alloc: Global, shape: &ContextDecl) -> Mem<Option<ToJs
 }
 
 /// The leftmost repeat of the type of tags, if there is one.
-fn tags_fault(alloc: Global, tags: &Option<Node<Type>>) -> Mem<Option<ToJsonSchemaError>>
+fn tags_fault(alloc: Global, tags: &Option<Boxed<Node<Type>>>) -> Mem<Option<ToJsonSchemaError>>
     ensures { IfOk result (λ fault. option_to_list fault
         ≡ flat_map (λ t. repeat_fault (leftmost_repeat t.node))
         (option_to_list (option_map (node_of type_tree) tags.now))) }
 {
     match tags {
         None => Ok(None),
-        Some(ty) => find_repeat(alloc, &ty.node),
+        Some(ty) => find_repeat(alloc, &ty.get().node),
     }
 }
 

@@ -10,7 +10,7 @@ ghost use Rattle.cedar_parser.specs.Giving.{Gives, tokens_of, lexeme_node};
 use crate::fault::Fault;
 use crate::lists::{Names, Paths, References};
 use crate::tokens::{Parser, Tokens};
-use cedar_data::{Items, Mem, Out, Text};
+use cedar_data::{Boxed, Items, Mem, Out, Text};
 use cedar_names::{Loc, Node, NonEmpty};
 use cedar_tokens::Lexeme;
 use cedar_tree::{ActionDecl, AppDecl, ContextDecl, Declaration, PR, PRAppDecl, Path, QualName};
@@ -27,12 +27,25 @@ fn non_empty<T: Drop>(items: Items<T>) -> NonEmpty<T>
 }
 
 impl<'s> Parser<'s> {
+    /// The value on the heap, if there is one.
+    fn boxed<T: Drop>(&self, value: Option<T>) -> Mem<Option<Boxed<T>>>
+        ensures { IfOk result (λ boxed. boxed ≡ value) }
+    {
+        match value {
+            None => Ok(None),
+            Some(value) => {
+                let boxed = Boxed::new(self.alloc, value)?;
+                Ok(Some(boxed))
+            }
+        }
+    }
+
     /// Takes the actions after `in`, if it stands next.
     #[tactic(auto, unfolding(cedar_grammar::specs::Reading::above_at))]
     fn actions_above(
         &self,
         tokens: &mut Tokens<'_, '_>,
-    ) -> Out<Option<NonEmpty<Node<QualName>>>, Fault>
+    ) -> Out<Option<Boxed<NonEmpty<Node<QualName>>>>, Fault>
         ensures read { Gives (λ refs. map (node_of qual_tree) (listed refs))
             (tokens_of self.now.source.now tokens.new.rest.now) result
             (above_at (one_or_list_at ref_at) (tokens_of self.now.source.now tokens.old.rest.now)) }
@@ -40,7 +53,7 @@ impl<'s> Parser<'s> {
     {
         if let Some(_) = self.accept_keyword(tokens, "in") {
             let refs = self.one_or_list::<References>(tokens)?;
-            return Ok(refs.node);
+            return Ok(self.boxed(refs.node)?);
         }
         Ok(None)
     }
@@ -193,7 +206,7 @@ impl<'s> Parser<'s> {
     fn applies(
         &self,
         tokens: &mut Tokens<'_, '_>,
-    ) -> Out<Option<Node<NonEmpty<Node<AppDecl>>>>, Fault>
+    ) -> Out<Option<Boxed<Node<NonEmpty<Node<AppDecl>>>>>, Fault>
         ensures read { (n : ℕ) → length tokens.old.rest.now < n
             → Gives (option_map (node_of (λ apps. map (node_of app_tree) (elements apps))))
             (tokens_of self.now.source.now tokens.new.rest.now) result
@@ -203,6 +216,7 @@ impl<'s> Parser<'s> {
         if let Some(_) = self.accept_keyword(tokens, "appliesTo") {
             let opening = self.expect_mark(tokens, "{")?;
             let apps = self.apps(tokens, opening)?;
+            let apps = Boxed::new(self.alloc, apps)?;
             return Ok(Some(apps));
         }
         Ok(None)
@@ -257,8 +271,8 @@ impl<'s> Parser<'s> {
     ) -> Out<
         (
             (
-                Option<NonEmpty<Node<QualName>>>,
-                Option<Node<NonEmpty<Node<AppDecl>>>>,
+                Option<Boxed<NonEmpty<Node<QualName>>>>,
+                Option<Boxed<Node<NonEmpty<Node<AppDecl>>>>>,
             ),
             Loc,
         ),

@@ -12,7 +12,7 @@ ghost use Rattle.cedar_parser.specs.Giving.{Gives, tokens_of, lexeme_node};
 use crate::fault::Fault;
 use crate::lists::{Idents, Literals, Paths};
 use crate::tokens::{Parser, Tokens};
-use cedar_data::{Dup, Items, Mem, Out, Text};
+use cedar_data::{Boxed, Dup, Items, Mem, Out, Text};
 use cedar_names::{Id, Loc, Node, NonEmpty};
 use cedar_tokens::Lexeme;
 use cedar_tree::{
@@ -73,7 +73,7 @@ impl<'s> Parser<'s> {
 
     /// Takes `tags` and a type, if it stands next: the place of the word, and the type.
     #[tactic(auto, unfolding(cedar_grammar::specs::Reading::tags_at))]
-    fn tags(&self, tokens: &mut Tokens<'_, '_>) -> Out<Option<(Loc, Node<Type>)>, Fault>
+    fn tags(&self, tokens: &mut Tokens<'_, '_>) -> Out<Option<(Loc, Boxed<Node<Type>>)>, Fault>
         ensures read { (n : ℕ) → length tokens.old.rest.now < n
             → Gives (option_map (λ p. (p.0, node_of type_tree p.1)))
             (tokens_of self.now.source.now tokens.new.rest.now) result
@@ -82,6 +82,7 @@ impl<'s> Parser<'s> {
     {
         if let Some(tags) = self.accept_keyword(tokens, "tags") {
             let ty = self.type_of(tokens)?;
+            let ty = Boxed::new(self.alloc, ty)?;
             let loc = self.place(tags.start, tags.end)?;
             return Ok(Some((loc, ty)));
         }
@@ -92,9 +93,9 @@ impl<'s> Parser<'s> {
     fn shape_and_tags(
         &self,
         shape: Option<ContextDecl>,
-        tags: Option<(Loc, Node<Type>)>,
+        tags: Option<(Loc, Boxed<Node<Type>>)>,
         behind: Lexeme<'_>,
-    ) -> Mem<(ContextDecl, Option<Node<Type>>)>
+    ) -> Mem<(ContextDecl, Option<Boxed<Node<Type>>>)>
         ensures shape { IfOk result (λ p. context_tree p.0
             ≡ shape_at (option_map context_tree shape)
             (behind_shape (option_map (λ p. (p.0, node_of type_tree p.1)) tags)
@@ -134,10 +135,10 @@ impl<'s> Parser<'s> {
     fn standard_end(
         &self,
         shape: Option<ContextDecl>,
-        tags: Option<(Loc, Node<Type>)>,
+        tags: Option<(Loc, Boxed<Node<Type>>)>,
         entity: Lexeme<'_>,
         semicolon: Lexeme<'_>,
-    ) -> Mem<((ContextDecl, Option<Node<Type>>), Loc)>
+    ) -> Mem<((ContextDecl, Option<Boxed<Node<Type>>>), Loc)>
         ensures shape { IfOk result (λ p. context_tree p.0.0
             ≡ shape_at (option_map context_tree shape)
             (behind_shape (option_map (λ p. (p.0, node_of type_tree p.1)) tags)
@@ -159,7 +160,7 @@ impl<'s> Parser<'s> {
         &self,
         tokens: &mut Tokens<'_, 'a>,
         entity: Lexeme<'a>,
-    ) -> Out<((ContextDecl, Option<Node<Type>>), Loc), Fault>
+    ) -> Out<((ContextDecl, Option<Boxed<Node<Type>>>), Loc), Fault>
         ensures read { (n : ℕ) → length tokens.old.rest.now < n
             → Gives (λ p. ((context_tree p.0.0, option_map (node_of type_tree) p.0.1), p.1))
             (tokens_of self.now.source.now tokens.new.rest.now) result

@@ -73,6 +73,7 @@ fn add_entity(lines: &mut Lines, entity: &StandardEntityDecl) -> Mem<()> {
     }
     add_shape(lines, &entity.attrs)?;
     if let Some(tags) = &entity.tags {
+        let tags = tags.get();
         lines.add_at(2, &tags.loc, "tags")?;
         add_type(lines, 3, &tags.node, &tags.loc)?;
     }
@@ -98,9 +99,10 @@ fn add_shape(lines: &mut Lines, shape: &ContextDecl) -> Mem<()> {
 fn add_action(lines: &mut Lines, action: &ActionDecl) -> Mem<()> {
     add_texts(lines, 2, &action.names)?;
     if let Some(parents) = &action.parents {
-        add_parents(lines, parents)?;
+        add_parents(lines, parents.get())?;
     }
     if let Some(applies) = &action.app_decls {
+        let applies = applies.get();
         lines.add_at(2, &applies.loc, "applies")?;
         for part in applies.node.iter() {
             add_part(lines, part)?;

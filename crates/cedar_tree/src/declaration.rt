@@ -6,7 +6,7 @@ ghost use Rattle.cedar_tree.specs.Declarations.{TextAt, entity_names, word_of};
 use crate::annotated::Annotated;
 use crate::path::{Path, QualName};
 use crate::ty::{AttrDecl, Type};
-use cedar_names::{Dup, Id, Items, Loc, Mem, Node, NonEmpty, NonEmptyIter, Text};
+use cedar_names::{Boxed, Dup, Id, Items, Loc, Mem, Node, NonEmpty, NonEmptyIter, Text};
 use std::alloc::Global;
 use std::fmt;
 
@@ -67,7 +67,7 @@ pub struct StandardEntityDecl {
     /// attributes at an empty place: the start of `tags`, or else of `;`.
     pub attrs: ContextDecl,
     /// The type behind `tags`, at its own place; none where there is no `tags`.
-    pub tags: Option<Node<Type>>,
+    pub tags: Option<Boxed<Node<Type>>>,
 }
 
 /// Entity types that have the entities of these ids, and no others.
@@ -124,10 +124,10 @@ pub struct ActionDecl {
     pub names: NonEmpty<Node<Text>>,
     /// The actions behind `in`, in the order of the text, each at its place from its path to its id; `None` where there
     /// is no `in`, or `in []`.
-    pub parents: Option<NonEmpty<Node<QualName>>>,
+    pub parents: Option<Boxed<NonEmpty<Node<QualName>>>>,
     /// The parts of `appliesTo` in the order of the text, a repeated one included, at the place from `{` to `}`; each
     /// runs from its word to the end of what stands behind `:`. `None` where there is no `appliesTo`.
-    pub app_decls: Option<Node<NonEmpty<Node<AppDecl>>>>,
+    pub app_decls: Option<Boxed<Node<NonEmpty<Node<AppDecl>>>>>,
 }
 
 impl fmt::Display for PR {

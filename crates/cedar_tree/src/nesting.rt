@@ -84,7 +84,7 @@ fn deep_in_entity(decl: &EntityDecl) -> Option<Span>
                 return Some(place);
             }
             match &decl.tags {
-                Some(tags) => deep_type(tags),
+                Some(tags) => deep_type(tags.get()),
                 None => None,
             }
         }
@@ -120,6 +120,7 @@ fn deep_in_action(decl: &ActionDecl) -> Option<Span>
 {
     match &decl.app_decls {
         Some(lines) => {
+            let lines = lines.get();
             if let Some(place) = deep_in_app(&lines.node.head.node) {
                 return Some(place);
             }
