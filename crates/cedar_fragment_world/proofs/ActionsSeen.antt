@@ -37,8 +37,9 @@ use Rattle.cedar_fragment_world.specs.FragmentWorlds as worlds
 use Rattle.cedar_fragment_world.specs.FragmentWorlds.{action_of, action_reference, action_reference_cmp, actions_of, context_of, entity_types_of, principals_of, reference, resources_of}
 use Rattle.cedar_fragment_world.proofs.EntitiesSeen.{names_alike, shape_alike}
 use Rattle.cedar_fragment_world.proofs.Lists.{sets_alike}
-use Rattle.cedar_fragment_world.proofs.NamesSeen.{in_order, referred, words_of}
-use Rattle.cedar_fragment_world.proofs.SureSteps.{sure_items, sure_one, sure_three, sure_two}
+use Rattle.cedar_fragment_world.proofs.NamesSeen.{referred, words_of}
+use Rattle.cedar_namespace_definitions.proofs.ReferenceOrder.{in_order}
+use Rattle.cedar_namespace_definitions.proofs.SureSteps.{sure_items, sure_one, sure_three, sure_two}
 
 -- the name of the type of a parent, as it is written
 abbrev type_name : ActionEntityUID RawName over_raw → RawName

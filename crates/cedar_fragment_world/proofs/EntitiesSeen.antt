@@ -28,8 +28,9 @@ use Rattle.cedar_world.specs.DefinitionViews.{kind_in, type_in}
 use Rattle.cedar_convert_fragment.specs.Views.{kind_seen, name_at, type_seen}
 use Rattle.cedar_fragment_world.specs.FragmentWorlds.{entity_of, entity_types_of, reference, reference_cmp, type_of}
 use Rattle.cedar_fragment_world.proofs.Lists.{option_both, sets_alike}
-use Rattle.cedar_fragment_world.proofs.NamesSeen.{in_order, referred, words_of}
-use Rattle.cedar_fragment_world.proofs.SureSteps.{sure_items, sure_one, sure_option, sure_three}
+use Rattle.cedar_fragment_world.proofs.NamesSeen.{referred, words_of}
+use Rattle.cedar_namespace_definitions.proofs.ReferenceOrder.{in_order}
+use Rattle.cedar_namespace_definitions.proofs.SureSteps.{sure_items, sure_one, sure_option, sure_three}
 use Rattle.cedar_fragment_world.proofs.TypesSeen.{type_alike}
 
 module _ (ns : Option InternalName) where

@@ -1,7 +1,6 @@
 -- SPDX-License-Identifier: Apache-2.0
 pub mod of_convert_faults
 pub mod Lists
-pub mod SureSteps
 pub mod NamesSeen
 pub mod TypesSeen
 pub mod EntitiesSeen

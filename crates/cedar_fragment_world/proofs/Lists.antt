@@ -1,12 +1,10 @@
 -- SPDX-License-Identifier: Apache-2.0
 -- Lists and sets that are seen through functions.
-use Rattle.std.proofs.Common.{◌≡◌, Bool, true, false, cond, List, [], ◌∷◌, ◌++◌, map, fold, Option, Some, None, option_map, refl, sym, ap, ◌∙◌}
-use Rattle.std.specs.BTreeSet.{insert_key}
+use Rattle.std.proofs.Common.{◌≡◌, Bool, true, false, cond, List, [], ◌∷◌, ◌++◌, map, Option, Some, None, option_map, refl, sym, ap, ◌∙◌}
 use Rattle.std.specs.List.{filter, flat_map}
-use Rattle.std.specs.Ordering.{match_ordering}
 use Rattle.std.specs.declared.cmp.Ordering.{Ordering}
-use Rattle.std.specs.declared.cmp.Ordering.TheVariants.{Less, Equal, Greater}
 use Rattle.cedar_data.specs.Sets.{set_of}
+use Rattle.cedar_namespace_definitions.proofs.OrderedSets.{seen_set}
 
 module _ {A B C : Type 0} where
   -- items seen twice
@@ -37,27 +35,6 @@ seen_both f g h k same (x ∷ xs) = λ i. same x i ∷ seen_both f g h k same xs
 pub option_both : {A B C D : Type 0} (f : B → C) (g : A → B) (h : D → C) (k : A → D) → ((x : A) → f (g x) ≡ h (k x)) → (o : Option A) → option_map f (option_map g o) ≡ option_map h (option_map k o)
 option_both f g h k same None = refl
 option_both f g h k same (Some x) = ap Some (same x)
-
-module _ {A B : Type 0} (order : A → A → Ordering) (cmp : B → B → Ordering) (see : A → B) (same : (x y : A) → order x y ≡ cmp (see x) (see y)) where
-  -- a set seen in the same order, with one key more
-  seen_insert : (ks : List A) (k : A) → map see (insert_key order ks k) ≡ insert_key cmp (map see ks) (see k)
-  seen_insert [] k = refl
-  seen_insert (x ∷ ks) k =
-      by (order k x) (seen_insert ks k) ∙ ap (λ o. match_ordering o (see k ∷ see x ∷ map see ks) (see x ∷ map see ks) (see x ∷ insert_key cmp (map see ks) (see k))) (same k x)
-    where
-      by : (o : Ordering) → map see (insert_key order ks k) ≡ insert_key cmp (map see ks) (see k)
-          → map see (match_ordering o (k ∷ x ∷ ks) (x ∷ ks) (x ∷ insert_key order ks k)) ≡ match_ordering o (see k ∷ see x ∷ map see ks) (see x ∷ map see ks) (see x ∷ insert_key cmp (map see ks) (see k))
-      by Less others = refl
-      by Equal others = refl
-      by Greater others = ap (λ l. see x ∷ l) others
-
-  from : (made ks : List A) → map see (fold (insert_key order) made ks) ≡ fold (insert_key cmp) (map see made) (map see ks)
-  from made [] = refl
-  from made (k ∷ ks) = from (insert_key order made k) ks ∙ ap (λ l. fold (insert_key cmp) l (map see ks)) (seen_insert made k)
-
-  -- the set of keys, seen in the same order
-  pub seen_set : (ks : List A) → map see (set_of order ks) ≡ set_of cmp (map see ks)
-  seen_set ks = from [] ks
 
 -- a set seen through another in the same order
 pub sets_alike : {A B C D : Type 0} (order : A → A → Ordering) (cmp : B → B → Ordering) (cmp' : C → C → Ordering) (f : A → B) (see : A → D) (g : D → C) (h : B → C)

@@ -34,7 +34,7 @@ use Rattle.cedar_convert_fragment.specs.Fragments.{FieldAt, fields}
 use Rattle.cedar_convert_fragment.specs.Views.{attribute_seen, form_seen, record_seen, see_attribute, see_form, see_record, see_type, type_seen}
 use Rattle.cedar_fragment_world.specs.FragmentWorlds.{fields_of, form_of, type_of}
 use Rattle.cedar_fragment_world.proofs.NamesSeen.{referred, words_of}
-use Rattle.cedar_fragment_world.proofs.SureSteps.{sure_one, sure_values}
+use Rattle.cedar_namespace_definitions.proofs.SureSteps.{sure_one, sure_values}
 
 module _ (ns : Option InternalName) where
   -- what comes of a type and of its parts

@@ -1,9 +1,13 @@
 -- SPDX-License-Identifier: Apache-2.0
 pub mod ActionLoops
 pub mod Defines
+pub mod DistinctParents
 pub mod Faultless
 pub mod Loops
 pub mod NameOrders
+pub mod OrderedSets
+pub mod ReferenceOrder
 pub mod Reserved
 pub mod Sorting
 pub mod Sure
+pub mod SureSteps

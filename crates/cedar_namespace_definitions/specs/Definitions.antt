@@ -76,6 +76,11 @@ common_in ns c = (name_at ns (unreserved_of c.0) c.1.loc, sure (through_type (qu
 
 -- ---- entity types
 
+-- the kind of entity type with its parents in order, of equal ones the first alone
+abbrev pub distinct_parents : {N : Type 0} → (N → N → Ordering) → EntityTypeKind N → EntityTypeKind N
+distinct_parents cmp (sort.Standard e) = sort.Standard (record { member_of_types = set_of cmp e.member_of_types; shape = e.shape; tags = e.tags })
+distinct_parents cmp (sort.Enum choices) = sort.Enum choices
+
 -- what kind of entity type it is; parents are a set
 abbrev pub standard_made : {N : Type 0} → (N → N → Ordering) → StandardEntityType N → EntityTypeFragment N
 standard_made cmp e = made.Standard e.shape (set_of cmp e.member_of_types) e.tags

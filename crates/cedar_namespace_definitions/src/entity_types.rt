@@ -8,12 +8,12 @@ ghost use Rattle.cedar_data.specs.Firsts.{IsFirst};
 ghost use Rattle.cedar_names.specs.Components.{components};
 ghost use Rattle.cedar_names.specs.Names.{internal_cmp};
 ghost use Rattle.cedar_schema_error.specs.Told.{told};
-ghost use Rattle.cedar_namespace_definitions.specs.Definitions.{AreEntityTypes, entity_in, entity_made, entity_place, entry_of, kind_made, put_entries, standard_made, with_keys};
+ghost use Rattle.cedar_namespace_definitions.specs.Definitions.{AreEntityTypes, distinct_parents, entity_in, entity_made, entity_place, entry_of, kind_made, put_entries, standard_made, with_keys};
 ghost use Rattle.cedar_namespace_definitions.specs.Faults.{entity_faults};
 ghost use Rattle.cedar_namespace_definitions.specs.NamesIn.{entity_key, name_at, reserved_in};
 
 use crate::names::entity_type_at;
-use crate::sets::set_of;
+use crate::sets::{distinct, set_of};
 use cedar_data::{Dup, Map, Mem, Out};
 use cedar_definitions::{EntityTypeFragment, EntityTypesDef};
 use cedar_fragment::{
@@ -55,8 +55,30 @@ fn kind_made<N: Ord + Drop>(alloc: Global, kind: EntityTypeKind<N>) -> Mem<Entit
     }
 }
 
-/// What an entity type is, with what each name in it may stand for.
-#[tactic(auto, using(crate::proofs::Sure::is_sure), unfolding(crate::specs::Definitions::entity_made))]
+/// The kind of entity type with its parents in order, of equal ones the first alone.
+fn distinct_parents<N: Ord + Drop>(alloc: Global, kind: EntityTypeKind<N>) -> Mem<EntityTypeKind<N>>
+    ensures { IfOk result (λ made. made ≡ distinct_parents N.cmp kind) }
+{
+    match kind {
+        EntityTypeKind::Standard(entity_type) => {
+            let StandardEntityType {
+                member_of_types,
+                shape,
+                tags,
+            } = entity_type;
+            let member_of_types = distinct(alloc, member_of_types)?;
+            Ok(EntityTypeKind::Standard(StandardEntityType {
+                member_of_types,
+                shape,
+                tags,
+            }))
+        }
+        EntityTypeKind::Enum { choices } => Ok(EntityTypeKind::Enum { choices }),
+    }
+}
+
+/// What an entity type is, with what each name in it may stand for. Equal parents are dropped first, since a name with
+/// all that it may stand for takes much memory.
 fn entity_made(
     alloc: Global,
     step: &Qualifying<'_>,
@@ -69,7 +91,9 @@ fn entity_made(
         kind,
         annotations: _,
         loc: _,
-    } = walk_unrefused(alloc, step, entity_type)?;
+    } = entity_type;
+    let kind = distinct_parents(alloc, kind)?;
+    let kind = walk_unrefused(alloc, step, kind)?;
     kind_made(alloc, kind)
 }
 
