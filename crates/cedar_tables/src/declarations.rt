@@ -4,7 +4,7 @@ ghost use Rattle.cedar_data.specs.Maps.{get};
 ghost use Rattle.cedar_names.specs.Names.{entity_cmp};
 ghost use Rattle.cedar_tables.specs.Declarations.{actions_of, common_types_of, entity_types_of, placed_by, placed_types};
 
-use cedar_data::{Dup, Map, Mem};
+use cedar_data::{Dup, Map, Mem, Near};
 use cedar_declared::{ActionFragment, EntityTypeFragment, EntityTypesDef, ValidatorNamespaceDef};
 use cedar_names::{EntityType, EntityUID, InternalName};
 use cedar_text::Loc;
@@ -54,11 +54,16 @@ fn append_entries<K: Ord + Drop, V: Drop>(map: Map<K, V>, entries: &mut Vec<(K, 
     Ok(())
 }
 
-/// A copy of the place at a name.
-fn place_at(alloc: Global, places: &Map<EntityType, Loc>, name: &EntityType) -> Mem<Option<Loc>>
+/// A copy of the place at a name. The search begins where the last one ended.
+fn place_at(
+    alloc: Global,
+    places: &Map<EntityType, Loc>,
+    near: &mut Near,
+    name: &EntityType,
+) -> Mem<Option<Loc>>
     ensures { IfOk result (λ loc. loc ≡ get entity_cmp places.now name.now) }
 {
-    match places.get(name) {
+    match places.get_near(near, name) {
         Some(loc) => {
             let loc = loc.dup(alloc)?;
             Ok(Some(loc))
@@ -77,8 +82,9 @@ fn append_placed<T: Drop>(
     ensures { OnOk result (entries.new.items ≡ entries.old.items ++ map (placed_by locs.now) defs) }
 {
     entries.reserve(defs.len())?;
+    let mut near = Near::first();
     for (name, fragment) in defs.into_entries() {
-        let loc = place_at(alloc, locs, &name)?;
+        let loc = place_at(alloc, locs, &mut near, &name)?;
         entries.push((name, Placed { fragment, loc }))?;
     }
     Ok(())
