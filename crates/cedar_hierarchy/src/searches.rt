@@ -3,6 +3,7 @@ use cedar_data::Near;
 
 /// Where the last searches for the parts of nodes ended. The nodes are made in the order of their keys, so that each
 /// search ends a little behind the last one.
+#[derive(Drop)]
 pub(crate) struct Searches {
     /// Among children.
     pub(crate) children: Near,
