@@ -22,11 +22,10 @@ ghost use Rattle.cedar_text.specs.Failures.{IfRefused};
 
 use crate::children::{Children, children_of};
 use crate::gathered::{HasParents, gather};
-use crate::searches::Searches;
 use crate::targets::all_meant;
 use crate::uses::{Uses, copy_at};
 use cedar_closure::close_map;
-use cedar_data::{Dup, Failure, Map, Mem, Near, Out, Set};
+use cedar_data::{Dup, Failure, Map, Mem, Out, Set};
 use cedar_names::{EntityType, EntityUID};
 use cedar_resolved::ValidatorActionId;
 use cedar_schema_error::{SchemaError, UsePlace};
@@ -55,49 +54,25 @@ fn types_meant(
     Ok(types)
 }
 
-/// The id of an action, with the type of its context, where a use tells it.
-fn with_told_context(
-    alloc: Global,
-    uid: EntityUID,
-    uses: &Uses,
-    near: &mut Near,
-) -> Mem<(EntityUID, Option<Type>)>
-    ensures { IfOk result (λ r. r ≡ (uid, type_at_use uses.now (Context uid))) }
+/// The type of the context of an action, where a use tells it.
+fn told_context(alloc: Global, uid: &EntityUID, uses: &Uses) -> Mem<Option<Type>>
+    ensures { IfOk result (λ ty. ty ≡ type_at_use uses.now (Context uid.now)) }
 {
-    let place = UsePlace::Context(uid);
-    let ty = copy_at(alloc, uses, near, &place)?;
-    match place {
-        UsePlace::Context(uid) => Ok((uid, ty)),
-        _ => unreachable!(),
-    }
+    let place = UsePlace::Context(uid.dup(alloc)?);
+    copy_at(alloc, uses, &place)
 }
 
-/// The type of a context: an empty record where no use tells it.
-fn context_told(alloc: Global, told: Option<Type>) -> Mem<Type>
-    ensures { IfOk result (λ ty. ty ≡ context_at_use told) }
+/// The type of the context of an action: an empty record where no use tells it.
+fn context_of(alloc: Global, uid: &EntityUID, uses: &Uses) -> Mem<Type>
+    ensures { IfOk result (λ ty. ty ≡ context_at_use (type_at_use uses.now (Context uid.now))) }
 {
-    match told {
+    match told_context(alloc, uid, uses)? {
         Some(ty) => Ok(ty),
         None => {
             let none = Attributes::from_map(Map::new(alloc));
             Type::record_with_attributes(alloc, none, OpenTag::ClosedAttributes)
         }
     }
-}
-
-/// The id of an action, with the type of its context.
-fn with_context(
-    alloc: Global,
-    uid: EntityUID,
-    uses: &Uses,
-    near: &mut Near,
-) -> Mem<(EntityUID, Type)>
-    ensures { IfOk result
-        (λ r. r ≡ (uid, context_at_use (type_at_use uses.now (Context uid)))) }
-{
-    let (uid, told) = with_told_context(alloc, uid, uses, near)?;
-    let context = context_told(alloc, told)?;
-    Ok((uid, context))
 }
 
 /// The action of an outline, under its id, with its children as descendants.
@@ -108,15 +83,14 @@ fn action_node(
     outline: ActionOutline,
     children: &Children<EntityUID>,
     uses: &Uses,
-    searches: &mut Searches,
 ) -> Mem<(EntityUID, ValidatorActionId)>
     ensures { IfOk result
         (IsActionNode (names_of all_defs.now) children.now uses.now (uid, outline)) }
 {
     let principals = types_meant(alloc, all_defs, &outline.applies_to.principal_apply_spec)?;
     let resources = types_meant(alloc, all_defs, &outline.applies_to.resource_apply_spec)?;
-    let descendants = children_of(alloc, &uid, children, &mut searches.children)?;
-    let (uid, context) = with_context(alloc, uid, uses, &mut searches.contexts)?;
+    let descendants = children_of(alloc, &uid, children)?;
+    let context = context_of(alloc, &uid, uses)?;
     let key = uid.dup(alloc)?;
     let ActionOutline {
         parents: _,
@@ -150,17 +124,8 @@ fn action_nodes(
         (AllZip (IsActionNode (names_of all_defs.now) children.now uses.now) outlines) }
 {
     let mut nodes = Map::with_room(alloc, outlines.len())?;
-    let mut searches = Searches::none();
     for (uid, outline) in outlines.into_entries() {
-        let (key, action) = action_node(
-            alloc,
-            all_defs,
-            uid,
-            outline,
-            children,
-            uses,
-            &mut searches,
-        )?;
+        let (key, action) = action_node(alloc, all_defs, uid, outline, children, uses)?;
         nodes.push_last(key, action)?;
     }
     Ok(nodes)

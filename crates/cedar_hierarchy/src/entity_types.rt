@@ -15,11 +15,10 @@ ghost use Rattle.cedar_tables.specs.Outlines.{entity_outline_in};
 
 use crate::children::{Children, children_of};
 use crate::gathered::{HasParents, gather};
-use crate::searches::Searches;
 use crate::targets::all_meant;
 use crate::uses::{Uses, copy_at, record_at};
 use cedar_closure::close_map;
-use cedar_data::{Dup, Failure, Map, Mem, Near, NoMemory, Set, Text};
+use cedar_data::{Dup, Failure, Map, Mem, NoMemory, Set, Text};
 use cedar_names::EntityType;
 use cedar_resolved::ValidatorEntityType;
 use cedar_schema_error::UsePlace;
@@ -36,38 +35,20 @@ impl HasParents<EntityType> for EntityOutline {
     }
 }
 
-/// The name of an entity type, with the attributes of its shape, and whether it may have others.
-fn with_shape(
-    alloc: Global,
-    name: EntityType,
-    uses: &Uses,
-    near: &mut Near,
-) -> Mem<(EntityType, (Attributes, OpenTag))>
-    ensures { IfOk result (λ r. r ≡ (name, record_at_use (type_at_use uses.now (Shape name)))) }
+/// The attributes of the shape of an entity type, and whether it may have others.
+fn shape_of(alloc: Global, name: &EntityType, uses: &Uses) -> Mem<(Attributes, OpenTag)>
+    ensures { IfOk result (λ r. r ≡ record_at_use (type_at_use uses.now (Shape name.now))) }
 {
-    let place = UsePlace::Shape(name);
-    let record = record_at(alloc, uses, near, &place)?;
-    match place {
-        UsePlace::Shape(name) => Ok((name, record)),
-        _ => unreachable!(),
-    }
+    let place = UsePlace::Shape(name.dup(alloc)?);
+    record_at(alloc, uses, &place)
 }
 
-/// The name of an entity type, with the type of its tags, if it has any.
-fn with_tags(
-    alloc: Global,
-    name: EntityType,
-    uses: &Uses,
-    near: &mut Near,
-) -> Mem<(EntityType, Option<Type>)>
-    ensures { IfOk result (λ r. r ≡ (name, type_at_use uses.now (Tags name))) }
+/// The type of the tags of an entity type, if it has any.
+fn tags_of(alloc: Global, name: &EntityType, uses: &Uses) -> Mem<Option<Type>>
+    ensures { IfOk result (λ o. o ≡ type_at_use uses.now (Tags name.now)) }
 {
-    let place = UsePlace::Tags(name);
-    let tags = copy_at(alloc, uses, near, &place)?;
-    match place {
-        UsePlace::Tags(name) => Ok((name, tags)),
-        _ => unreachable!(),
-    }
+    let place = UsePlace::Tags(name.dup(alloc)?);
+    copy_at(alloc, uses, &place)
 }
 
 /// The entity type of this name with the attributes and tags of the uses, and with no descendants.
@@ -76,7 +57,6 @@ fn standard_type(
     name: EntityType,
     loc: Option<Loc>,
     uses: &Uses,
-    searches: &mut Searches,
 ) -> Mem<ValidatorEntityType>
     ensures name { IfOk result (λ ty. type_name ty ≡ name) }
     ensures attributes { IfOk result (λ ty. type_attributes ty
@@ -86,8 +66,8 @@ fn standard_type(
         (type_at_use uses.now (Tags name))) }
     ensures loc { IfOk result (λ ty. ty.loc ≡ loc) }
 {
-    let (name, tags) = with_tags(alloc, name, uses, &mut searches.tags)?;
-    let (name, (attributes, tag)) = with_shape(alloc, name, uses, &mut searches.shapes)?;
+    let tags = tags_of(alloc, &name, uses)?;
+    let (attributes, tag) = shape_of(alloc, &name, uses)?;
     ValidatorEntityType::new_standard(alloc, name, Vec::new(alloc), attributes, tag, tags, loc)
 }
 
@@ -99,7 +79,6 @@ fn childless(
     choices: Option<NonEmpty<Text>>,
     loc: Option<Loc>,
     uses: &Uses,
-    searches: &mut Searches,
 ) -> Mem<ValidatorEntityType>
     ensures name { IfOk result (λ ty. type_name ty ≡ name) }
     ensures attributes { IfOk result (λ ty. type_attributes ty
@@ -108,7 +87,7 @@ fn childless(
     ensures loc { IfOk result (λ ty. ty.loc ≡ loc) }
 {
     match choices {
-        None => standard_type(alloc, name, loc, uses, searches),
+        None => standard_type(alloc, name, loc, uses),
         Some(ids) => ValidatorEntityType::new_enum(alloc, name, Vec::new(alloc), ids, loc),
     }
 }
@@ -120,7 +99,6 @@ fn entity_node(
     outline: EntityOutline,
     children: &Children<EntityType>,
     uses: &Uses,
-    searches: &mut Searches,
 ) -> Mem<(EntityType, ValidatorEntityType)>
     ensures { IfOk result (IsEntityNode children.now uses.now (name, outline)) }
 {
@@ -129,9 +107,9 @@ fn entity_node(
         choices,
         loc,
     } = outline;
-    let descendants = children_of(alloc, &name, children, &mut searches.children)?;
+    let descendants = children_of(alloc, &name, children)?;
     let key = name.dup(alloc)?;
-    let mut ty = childless(alloc, name, choices, loc, uses, searches)?;
+    let mut ty = childless(alloc, name, choices, loc, uses)?;
     ty.descendants = descendants;
     Ok((key, ty))
 }
@@ -146,9 +124,8 @@ fn entity_nodes(
     ensures { IfOk result (AllZip (IsEntityNode children.now uses.now) outlines) }
 {
     let mut nodes = Map::with_room(alloc, outlines.len())?;
-    let mut searches = Searches::none();
     for (name, outline) in outlines.into_entries() {
-        let (key, ty) = entity_node(alloc, name, outline, children, uses, &mut searches)?;
+        let (key, ty) = entity_node(alloc, name, outline, children, uses)?;
         nodes.push_last(key, ty)?;
     }
     Ok(nodes)

@@ -6,7 +6,6 @@ mod actions;
 mod children;
 mod entity_types;
 mod gathered;
-mod searches;
 mod targets;
 mod uses;
 
