@@ -56,7 +56,7 @@ fn push_other_target(
 }
 
 /// Puts the names that references mean and that are no declared entity types behind the others, in order.
-#[tactic(auto, using(cedar_hierarchy::proofs::of_tables::Appended::appended))]
+#[tactic(auto, using(cedar_tables::proofs::Appended::appended))]
 fn push_other_targets(
     alloc: Global,
     all_defs: &AllDefs,
@@ -73,7 +73,7 @@ fn push_other_targets(
 }
 
 /// The same of the parents of entity types.
-#[tactic(auto, using(cedar_hierarchy::proofs::of_tables::Appended::appended))]
+#[tactic(auto, using(cedar_tables::proofs::Appended::appended))]
 fn push_parents(
     alloc: Global,
     all_defs: &AllDefs,
@@ -117,7 +117,7 @@ fn push_application(
 }
 
 /// The same of what actions apply to: of each its principals, and then its resources.
-#[tactic(auto, using(cedar_hierarchy::proofs::of_tables::Appended::appended))]
+#[tactic(auto, using(cedar_tables::proofs::Appended::appended))]
 fn push_applications(
     alloc: Global,
     all_defs: &AllDefs,
