@@ -9,8 +9,8 @@ use Rattle.cedar_listing.specs.Listing.{listing}
 use Rattle.cedar_schema_json.specs.SchemaViews.{IsNamed, schema_in}
 use Rattle.cedar_resolved.specs.declared.schema.ValidatorSchema.{ValidatorSchema}
 use Rattle.cedar_schema_json.specs.Texts.{DenotesSchema, TextCause}
-use Rattle.cedar_schema_json.specs.of_schema_errors.declared.schema_error.CedarSchemaError.{CedarSchemaError}
-use Rattle.cedar_schema_json.specs.of_schema_errors.declared.schema_error.CedarSchemaError.TheVariants.{Parsing, Schema}
+use Rattle.cedar_schema_errors.specs.declared.schema_error.CedarSchemaError.{CedarSchemaError}
+use Rattle.cedar_schema_errors.specs.declared.schema_error.CedarSchemaError.TheVariants.{Parsing, Schema}
 use Rattle.cedar_answers.specs.Causes.{JsonTextCause}
 use Rattle.cedar_answers.specs.Making.{IsSchemaOf, IsJsonSchemaOf, MakesJsonListing, TellsJsonSchema, TellsSchema}
 use Rattle.cedar_reviews.specs.Refusal.{refusal_text}

@@ -8,7 +8,7 @@ use Rattle.cedar_data.specs.declared.memory.Failure.TheVariants.{Refused, NoMemo
 use Rattle.cedar_fmt.specs.Collisions.{collisions}
 use Rattle.cedar_fragment.specs.ActionUids.{over_raw}
 use Rattle.cedar_fragment.specs.declared.definitions.Fragment.{Fragment}
-use Rattle.cedar_schema_json.specs.of_json.TextFaults.{IsFragmentText, advised_fault}
+use Rattle.cedar_json.specs.TextFaults.{IsFragmentText, advised_fault}
 use Rattle.cedar_json_fault.specs.declared.json_error.JsonDeserializationError.{JsonDeserializationError}
 use Rattle.cedar_schema_json.proofs.OneShape.{text_clean, text_once}
 use Rattle.cedar_written.specs.declared.raw_name.RawName.{RawName}

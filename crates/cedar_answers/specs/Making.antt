@@ -6,7 +6,7 @@ use Rattle.cedar_commands.specs.declared.command.Command.{Command}
 use Rattle.cedar_commands.specs.declared.command.Command.TheVariants.{Resolve, ResolveJson, Check, ToJson, ToCedar, Review, Bench}
 use Rattle.cedar_convert_fragment.specs.Fragments as declared_fragments
 use Rattle.cedar_convert_fragment.specs.Views.{fragment_seen}
-use Rattle.cedar_schema_json.specs.of_convert_text.Texts.{DeclaresText}
+use Rattle.cedar_convert_text.specs.Texts.{DeclaresText}
 use Rattle.cedar_convert_warnings.specs.declared.warnings.SchemaWarning.{SchemaWarning}
 use Rattle.cedar_fmt.specs.Collisions.{collisions}
 use Rattle.cedar_fmt.specs.Texts.{kept_names}
@@ -14,7 +14,7 @@ use Rattle.cedar_fmt.specs.declared.errors.ToCedarSchemaSyntaxError.{ToCedarSche
 use Rattle.cedar_fragment.specs.ActionUids.{over_raw}
 use Rattle.cedar_fragment.specs.Printed.{print}
 use Rattle.cedar_fragment.specs.declared.definitions.Fragment.{Fragment}
-use Rattle.cedar_schema_json.specs.of_json.TextFaults.{IsFragmentText, advised_fault}
+use Rattle.cedar_json.specs.TextFaults.{IsFragmentText, advised_fault}
 use Rattle.cedar_json_fault.specs.declared.json_error.JsonDeserializationError.{JsonDeserializationError}
 use Rattle.cedar_json_write.specs.Written.{fragment_json}
 use Rattle.cedar_listing.specs.Counts.{counts}
@@ -25,8 +25,8 @@ use Rattle.cedar_resolved.specs.declared.schema.ValidatorSchema.{ValidatorSchema
 use Rattle.cedar_schema_json.specs.Texts.{DenotesSchema, IsWellFormed, ParsingCause, TextCause}
 use Rattle.cedar_schema_error.specs.declared.schema_error.SchemaError.{SchemaError}
 use Rattle.cedar_schema_error.specs.declared.schema_error.SchemaError.TheVariants.{JsonDeserialization}
-use Rattle.cedar_schema_json.specs.of_schema_errors.declared.schema_error.CedarSchemaError.{CedarSchemaError}
-use Rattle.cedar_schema_json.specs.of_schema_errors.declared.schema_error.CedarSchemaError.TheVariants.{Schema}
+use Rattle.cedar_schema_errors.specs.declared.schema_error.CedarSchemaError.{CedarSchemaError}
+use Rattle.cedar_schema_errors.specs.declared.schema_error.CedarSchemaError.TheVariants.{Schema}
 use Rattle.cedar_schema_json.specs.JsonSchemas as json
 use Rattle.cedar_written.specs.declared.raw_name.RawName.{RawName}
 use Rattle.cedar_answers.specs.declared.report.Report.{Report}

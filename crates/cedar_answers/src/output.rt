@@ -12,7 +12,7 @@ use cedar_data::{Failure, Out};
 use cedar_listing::{write_counts, write_listing};
 use cedar_resolved::ValidatorSchema;
 use cedar_reviews::refusal_text;
-use cedar_schema_json::CedarSchemaError;
+use cedar_schema_errors::CedarSchemaError;
 use cedar_streams::{Sink, SinkFailed, write_str};
 use std::alloc::Global;
 

@@ -11,7 +11,8 @@ use cedar_convert_warnings::SchemaWarning;
 use cedar_data::{Failure, Out};
 use cedar_names::Extensions;
 use cedar_resolved::ValidatorSchema;
-use cedar_schema_json::{CedarSchemaError, FromCedarSchema};
+use cedar_schema_errors::CedarSchemaError;
+use cedar_schema_json::FromCedarSchema;
 use cedar_streams::Sink;
 use std::alloc::Global;
 

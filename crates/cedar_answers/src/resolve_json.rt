@@ -14,7 +14,8 @@ use cedar_commands::Status;
 use cedar_data::{Failure, Out};
 use cedar_names::Extensions;
 use cedar_resolved::ValidatorSchema;
-use cedar_schema_json::{CedarSchemaError, SchemaJson};
+use cedar_schema_errors::CedarSchemaError;
+use cedar_schema_json::SchemaJson;
 use cedar_streams::Sink;
 use std::alloc::Global;
 

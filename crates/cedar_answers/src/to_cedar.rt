@@ -13,9 +13,10 @@ use crate::output::answer_written;
 use cedar_commands::Status;
 use cedar_data::{Failure, Out};
 use cedar_fragment::Fragment;
+use cedar_json::FragmentJson;
 use cedar_reviews::{printed, refused};
 use cedar_schema_error::SchemaError;
-use cedar_schema_json::{CedarSchemaError, FragmentJson};
+use cedar_schema_errors::CedarSchemaError;
 use cedar_streams::Sink;
 use std::alloc::Global;
 

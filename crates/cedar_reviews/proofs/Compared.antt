@@ -14,7 +14,7 @@ use Rattle.cedar_compat.proofs.CompatibleLaws.{pass-schema}
 use Rattle.cedar_envelope.proofs.FaultLemmas.{one_envelope}
 use Rattle.cedar_envelope.specs.Envelopes.{Contents, HoldsText, IsEnvelope}
 use Rattle.cedar_schema.proofs.Refusing.{well_formed_or_refused}
-use Rattle.cedar_compat.specs.of_world.Schemas.{Schema}
+use Rattle.cedar_world.specs.Schemas.{Schema}
 use Rattle.cedar_reviews.specs.Comparing.{AreCompatible, HoldsCompatible, HoldsTexts, IsComparable, MakesComparison, TellsBreak, TellsComparison, TellsIncompatible, TellsNew, schema_keys}
 use Rattle.cedar_reviews.specs.Holding.{Denotes}
 use Rattle.cedar_reviews.specs.Refusal.{error_line}

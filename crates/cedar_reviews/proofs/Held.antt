@@ -6,7 +6,7 @@ use Rattle.cedar_envelope.specs.Envelopes.{Contents, HoldsText, HoldsValue, IsEn
 use Rattle.cedar_envelope.specs.Faults.{envelope_fault}
 use Rattle.cedar_envelope.proofs.FaultLemmas.{no_fault, one_envelope}
 use Rattle.cedar_schema.proofs.Refusing.{one_schema_of_text, well_formed_or_refused}
-use Rattle.cedar_compat.specs.of_world.Schemas.{Schema}
+use Rattle.cedar_world.specs.Schemas.{Schema}
 use Rattle.cedar_reviews.specs.Holding.{Denotes, HoldsTextAndValue, TellsEnvelope, TellsNoSchema}
 
 -- a text at a key is one text

@@ -13,7 +13,7 @@ use Rattle.cedar_merge.specs.Merged.{Merged, NoClash, NoConflict}
 use Rattle.cedar_merge.specs.Texts.{note_told, place_told}
 use Rattle.cedar_merge.specs.declared.errors.MergeError.TheVariants.{AnnotationConflict, DuplicateDeclaration}
 use Rattle.cedar_schema.proofs.Declaring.{declared_or_not}
-use Rattle.cedar_schema.specs.of_schema_errors.declared.schema_error.CedarSchemaError.TheVariants.{Parsing, Schema}
+use Rattle.cedar_schema_errors.specs.declared.schema_error.CedarSchemaError.TheVariants.{Parsing, Schema}
 use Rattle.cedar_reviews.proofs.Held.{held-or-told, one_value}
 use Rattle.cedar_reviews.specs.Holding.{TellsParsing}
 use Rattle.cedar_reviews.specs.Merging.{AreTexts, Declares, EachDeclares, Held, HoldsSchemas, IsMergeable, TellsMerging, TellsOther, TellsUndeclared, TellsUnlisted, TellsUnmerged, other_value, texts_in}

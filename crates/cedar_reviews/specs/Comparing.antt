@@ -8,8 +8,8 @@ use Rattle.cedar_compat.specs.FaultTexts.{fault_text}
 use Rattle.cedar_compat.specs.declared.fault.CompatFault.{CompatFault}
 use Rattle.cedar_envelope.specs.Envelopes.{Contents, HoldsText, IsEnvelope}
 use Rattle.cedar_schema.specs.Texts.{TextCause}
-use Rattle.cedar_schema.specs.of_schema_errors.declared.schema_error.CedarSchemaError.{CedarSchemaError}
-use Rattle.cedar_compat.specs.of_world.Schemas.{Schema}
+use Rattle.cedar_schema_errors.specs.declared.schema_error.CedarSchemaError.{CedarSchemaError}
+use Rattle.cedar_world.specs.Schemas.{Schema}
 use Rattle.cedar_reviews.specs.Holding.{Denotes, TellsEnvelope}
 use Rattle.cedar_reviews.specs.Refusal.{error_line, labelled_refusal}
 

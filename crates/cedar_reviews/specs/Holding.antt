@@ -8,8 +8,8 @@ use Rattle.cedar_envelope.specs.Faults.{envelope_fault}
 use Rattle.cedar_envelope.specs.declared.fault.EnvelopeFault.{EnvelopeFault}
 use Rattle.cedar_schema.specs.Texts.{DenotesSchema, ParsingCause, TextCause}
 use Rattle.cedar_convert_warnings.specs.declared.warnings.SchemaWarning.{SchemaWarning}
-use Rattle.cedar_schema.specs.of_schema_errors.declared.schema_error.CedarSchemaError.{CedarSchemaError}
-use Rattle.cedar_compat.specs.of_world.Schemas.{Schema}
+use Rattle.cedar_schema_errors.specs.declared.schema_error.CedarSchemaError.{CedarSchemaError}
+use Rattle.cedar_world.specs.Schemas.{Schema}
 use Rattle.cedar_reviews.specs.Refusal.{error_line, refusal_text}
 
 -- the input is an object with a text at the first key and a value at the second, and these are they

@@ -2,8 +2,8 @@
 -- Whether the data that an input holds is right by the schema that it holds, and what is written or told of it.
 use Rattle.std.specs.Prelude.{◌≡◌, ◌⊎◌, ℕ, List, [], ◌∷◌, ◌++◌, codes, decimal, flat_map, Err}
 use Rattle.serde_json.specs.Data.{Data}
-use Rattle.cedar_request.specs.of_conform.Entities.{AreEntities}
-use Rattle.cedar_request.specs.of_conform.EntityChecks.{entities_check}
+use Rattle.cedar_conform.specs.Entities.{AreEntities}
+use Rattle.cedar_conform.specs.EntityChecks.{entities_check}
 use Rattle.cedar_conform_fault.specs.FaultTexts.{fault_text}
 use Rattle.cedar_conform_fault.specs.Flaws.{misfit}
 use Rattle.cedar_conform_fault.specs.declared.fault.Fault.{Fault}
@@ -13,7 +13,7 @@ use Rattle.cedar_request.specs.RequestChecks.{requests_check}
 use Rattle.cedar_request.specs.RequestFlaws.{request_flaw}
 use Rattle.cedar_request.specs.Requests.{AreRequests}
 use Rattle.cedar_request.specs.declared.fault.RequestFault.{RequestFault}
-use Rattle.cedar_compat.specs.of_world.Schemas.{Schema}
+use Rattle.cedar_world.specs.Schemas.{Schema}
 use Rattle.cedar_reviews.specs.Holding.{Denotes, HoldsTextAndValue, TellsEnvelope, TellsNoSchema}
 use Rattle.cedar_reviews.specs.Refusal.{error_line}
 use Rattle.cedar_reviews.specs.declared.judged.Judged.{Judged}

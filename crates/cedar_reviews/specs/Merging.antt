@@ -4,7 +4,7 @@ use Rattle.std.specs.Prelude.{◌≡◌, ◌⊎◌, ⊤, ℕ, ◌+◌, List, [],
 use Rattle.serde_json.specs.Data.{Data, array, Items, no_items, item}
 use Rattle.serde_json.specs.Find.{as_str}
 use Rattle.cedar_convert_fragment.specs.Views.{fragment_seen}
-use Rattle.cedar_schema.specs.of_convert_text.Texts.{DeclaresText}
+use Rattle.cedar_convert_text.specs.Texts.{DeclaresText}
 use Rattle.cedar_convert_warnings.specs.declared.warnings.SchemaWarning.{SchemaWarning}
 use Rattle.cedar_envelope.specs.Envelopes.{Contents, HoldsValue, IsEnvelope}
 use Rattle.cedar_fmt.specs.Collisions.{collisions}

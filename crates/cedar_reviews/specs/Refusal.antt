@@ -3,8 +3,8 @@
 use Rattle.std.specs.Prelude.{ℕ, List, [], ◌++◌, Option, None, Some, codes}
 use Rattle.cedar_fmt.specs.Texts as printing
 use Rattle.cedar_fmt.specs.declared.errors.ToCedarSchemaSyntaxError.{ToCedarSchemaSyntaxError}
-use Rattle.cedar_schema.specs.of_schema_errors.ErrorTexts.{error_help, error_text}
-use Rattle.cedar_schema.specs.of_schema_errors.declared.schema_error.CedarSchemaError.{CedarSchemaError}
+use Rattle.cedar_schema_errors.specs.ErrorTexts.{error_help, error_text}
+use Rattle.cedar_schema_errors.specs.declared.schema_error.CedarSchemaError.{CedarSchemaError}
 
 -- the line of what is wrong
 abbrev pub error_line : List ℕ → List ℕ

@@ -9,7 +9,7 @@ ghost use Rattle.cedar_reviews.specs.Comparing.{AreCompatible, HoldsCompatible, 
 ghost use Rattle.cedar_reviews.specs.Holding.{Denotes, TellsEnvelope};
 ghost use Rattle.cedar_schema.specs.SchemaViews.{schema_in};
 ghost use Rattle.cedar_text.specs.Words.{has_word};
-ghost use Rattle.cedar_compat.specs.of_world.Schemas.{Schema};
+ghost use Rattle.cedar_world.specs.Schemas.{Schema};
 
 use crate::holding::opened;
 use crate::refusal::{refused_behind, refused_by};

@@ -8,7 +8,7 @@ ghost use Rattle.cedar_envelope.specs.Envelopes.{IsEnvelope, contents};
 ghost use Rattle.cedar_names.specs.Extensions.{extension_words};
 ghost use Rattle.cedar_reviews.specs.Holding.{Denotes, TellsEnvelope, TellsNoSchema};
 ghost use Rattle.cedar_schema.specs.SchemaViews.{schema_in};
-ghost use Rattle.cedar_compat.specs.of_world.Schemas.{Schema};
+ghost use Rattle.cedar_world.specs.Schemas.{Schema};
 
 use crate::refusal::{refused, refused_by};
 use cedar_data::{Failure, Out, Text};

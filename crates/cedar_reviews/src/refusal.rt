@@ -5,7 +5,7 @@ ghost use Rattle.cedar_data.specs.Answers.{IfRefused};
 ghost use Rattle.cedar_reviews.specs.Refusal.{error_line, labelled_refusal, refusal_text};
 
 use cedar_data::{Failure, Mem, Out};
-use cedar_schema::CedarSchemaError;
+use cedar_schema_errors::CedarSchemaError;
 use std::alloc::Global;
 use std::fmt::Display;
 

@@ -22,11 +22,6 @@ pub record Streams : Type 0 where
   pub err : Option (List ℕ)
   pub err_faults : ℕ
 
--- these streams, each field by what a source or a sink says of itself
-abbrev pub streams : Option (List ℕ) → ℕ → Option (List ℕ) → ℕ → Option (List ℕ) → ℕ → Streams
-streams left read_faults out out_faults err err_faults =
-    record { left = left; read_faults = read_faults; out = out; out_faults = out_faults; err = err; err_faults = err_faults }
-
 -- how many bytes a text may have
 abbrev pub longest_text : ℕ
 longest_text = 4194304

@@ -7,7 +7,7 @@ ghost use Rattle.cedar_commands.specs.declared.command.Command.TheVariants.{Benc
 ghost use Rattle.cedar_generator.specs.Generated.{generated};
 ghost use Rattle.cedar_names.specs.Extensions.{extension_words};
 ghost use Rattle.cedar_schema_tool.specs.Answering.{AcceptsBytes, AcceptsSource, AnswersBytes, AnswersSource, AnswersText};
-ghost use Rattle.cedar_schema_tool.specs.Running.{AcceptsGiven, Runs, streams};
+ghost use Rattle.cedar_schema_tool.specs.Running.{AcceptsGiven, Runs};
 
 use cedar_answers::answer_text;
 use cedar_commands::{Command, Status, asked};
@@ -34,16 +34,13 @@ pub fn run<S: Source, K: Sink, E: Sink>(
 ) -> Status
     // What was read and written, by the status.
     ensures runs { Runs (map string_bytes words.now)
-        (streams (S.left source.old) (S.faults source.old) (K.written out.old)
-        (K.faults out.old) (E.written err.old) (E.faults err.old))
-        (streams (S.left source.new) (S.faults source.new) (K.written out.new)
-        (K.faults out.new) (E.written err.new) (E.faults err.new))
+        (record { left = S.left source.old; read_faults = S.faults source.old; out = K.written out.old; out_faults = K.faults out.old; err = E.written err.old; err_faults = E.faults err.old })
+        (record { left = S.left source.new; read_faults = S.faults source.new; out = K.written out.new; out_faults = K.faults out.new; err = E.written err.new; err_faults = E.faults err.new })
         result }
 
     // A text that the command accepts is accepted.
     ensures accepts { AcceptsGiven (map string_bytes words.now)
-        (streams (S.left source.old) (S.faults source.old) (K.written out.old)
-        (K.faults out.old) (E.written err.old) (E.faults err.old))
+        (record { left = S.left source.old; read_faults = S.faults source.old; out = K.written out.old; out_faults = K.faults out.old; err = E.written err.old; err_faults = E.faults err.old })
         result }
 {
     let (command, extensions) = match asked(alloc, words) {
@@ -97,10 +94,8 @@ fn answer_source<S: Source, K: Sink, E: Sink>(
     err: &mut E,
 ) -> Status
     ensures answers { AnswersSource command (extension_words extensions.now)
-        (streams (S.left source.old) (S.faults source.old) (K.written out.old)
-        (K.faults out.old) (E.written err.old) (E.faults err.old))
-        (streams (S.left source.new) (S.faults source.new) (K.written out.new)
-        (K.faults out.new) (E.written err.new) (E.faults err.new))
+        (record { left = S.left source.old; read_faults = S.faults source.old; out = K.written out.old; out_faults = K.faults out.old; err = E.written err.old; err_faults = E.faults err.old })
+        (record { left = S.left source.new; read_faults = S.faults source.new; out = K.written out.new; out_faults = K.faults out.new; err = E.written err.new; err_faults = E.faults err.new })
         result }
     ensures accepts { AcceptsSource command (extension_words extensions.now)
         (S.left source.old) result }

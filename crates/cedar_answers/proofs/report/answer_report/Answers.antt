@@ -1,11 +1,11 @@
 -- SPDX-License-Identifier: Apache-2.0
 use Rattle.std.proofs.Common.{◌≡◌, Global, Vec}
 use Rattle.cedar_convert_warnings.specs.declared.warnings.SchemaWarning.{SchemaWarning}
-use Rattle.cedar_schema_json.specs.of_fragment_world.FragmentWorlds.{world_of_fragment}
+use Rattle.cedar_fragment_world.specs.FragmentWorlds.{world_of_fragment}
 use Rattle.cedar_names.specs.Extensions.{extension_words}
 use Rattle.cedar_schema_json.specs.SchemaViews.{schema_in}
 use Rattle.cedar_resolved.specs.declared.schema.ValidatorSchema.{ValidatorSchema}
-use Rattle.cedar_schema_json.specs.of_world.Denotes.{Denotes}
+use Rattle.cedar_world.specs.Denotes.{Denotes}
 use Rattle.cedar_answers.proofs.ByMade.{made-accepts, made-answers}
 use Rattle.cedar_answers.proofs.Schemas.{schema-due, schema-told}
 use Rattle.cedar_answers.specs.Making.{MakesReport, TellsSchema, report_text}
