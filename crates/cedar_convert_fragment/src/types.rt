@@ -70,7 +70,7 @@ fn record_declared(
 ) -> Mem<RecordType<RawName>>
     ensures { IfOk result (λ made. record_seen made ≡ record_form (attrs_tree attrs)) }
 {
-    let mut attributes = Map::new(alloc);
+    let mut attributes = Map::with_room(alloc, attrs.len())?;
     for attr in attrs.into_vec() {
         let Node {
             node: Annotated { item, annotations },
