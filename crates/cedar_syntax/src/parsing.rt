@@ -53,6 +53,7 @@ pub fn parse_schema(alloc: Global, text: &str) -> Out<Schema, ParseErrors>
     };
     let source = Text::new(alloc, text)?;
     let lexemes = lexemes(alloc, source.as_str(), &found)?;
+    drop(found);
     match read_source(alloc, &source, &lexemes) {
         Ok(schema) => Ok(schema),
         Err(Failure::Refused(kind)) => {
