@@ -58,4 +58,9 @@ pub trait TypeNode: Sized {
             ≡ next_attribute (option_copied after.entry) (attributes_of (written self.now)) }
         ensures ordered { IsStrictlySortedBy (slice_cmp nat_cmp)
             (labels (attributes_of (written self.now))) };
+
+    /// For how many attributes room is made where it is a record. It makes no difference to what is made.
+    fn room(&self) -> usize {
+        0
+    }
 }

@@ -47,4 +47,14 @@ impl TypeNode for SchemaType<InternalName> {
             None => None,
         }
     }
+
+    fn room(&self) -> usize {
+        match self {
+            SchemaType::Variant { ty, .. } => match ty {
+                TypeVariant::Record(fields) => fields.attributes.len(),
+                _ => 0,
+            },
+            SchemaType::CommonTypeRef { .. } => 0,
+        }
+    }
 }

@@ -93,7 +93,7 @@ fn unfolded_record<T: TypeNode, L: Ledger>(
     ensures counts { steps.new ≤ steps.old + attribute_nodes
         (attributes_of (T.written record_type.now)) }
 {
-    let mut made = Map::new(alloc);
+    let mut made = Map::with_room(alloc, record_type.room())?;
     let mut depth: usize = 0;
     let mut is_whole = true;
     let mut after = None;

@@ -25,7 +25,7 @@ use Rattle.cedar_unfold.proofs.unfold_type.+unfold.Goals as goal
 pub unfolded_record-loop-name-init : goal.unfolded_record-loop-name-init
 unfolded_record-loop-name-init g t c =
     let ws = attributes_of (g.T.TypeNode.written c.args.record_type.now) in
-    (Joining-start {table = tabled c.args.table.now} ws c.new-made.result c.new-made.ensures, Noting-start (is_tabled (tabled c.args.table.now)) (has_word (extension_words c.args.extensions.now)) ws (noted c.args.fault.now) c.args.steps.now)
+    (Joining-start {table = tabled c.args.table.now} ws c.in_ok-made.made c.in_ok-made.ensures, Noting-start (is_tabled (tabled c.args.table.now)) (has_word (extension_words c.args.extensions.now)) ws (noted c.args.fault.now) c.args.steps.now)
 
 pub unfolded_record-unfolded-requires : goal.unfolded_record-unfolded-requires
 unfolded_record-unfolded-requires g t c κs within =
