@@ -22,10 +22,11 @@ ghost use Rattle.cedar_text.specs.Failures.{IfRefused};
 
 use crate::children::{Children, children_of};
 use crate::gathered::{HasParents, gather};
+use crate::searches::Searches;
 use crate::targets::all_meant;
 use crate::uses::{Uses, copy_at};
 use cedar_closure::close_map;
-use cedar_data::{Dup, Failure, Map, Mem, Out, Set};
+use cedar_data::{Dup, Failure, Map, Mem, Near, Out, Set};
 use cedar_names::{EntityType, EntityUID};
 use cedar_resolved::ValidatorActionId;
 use cedar_schema_error::{SchemaError, UsePlace};
@@ -55,18 +56,18 @@ fn types_meant(
 }
 
 /// The type of the context of an action, where a use tells it.
-fn told_context(alloc: Global, uid: &EntityUID, uses: &Uses) -> Mem<Option<Type>>
+fn told_context(alloc: Global, uid: &EntityUID, uses: &Uses, near: &mut Near) -> Mem<Option<Type>>
     ensures { IfOk result (λ ty. ty ≡ type_at_use uses.now (Context uid.now)) }
 {
     let place = UsePlace::Context(uid.dup(alloc)?);
-    copy_at(alloc, uses, &place)
+    copy_at(alloc, uses, near, &place)
 }
 
 /// The type of the context of an action: an empty record where no use tells it.
-fn context_of(alloc: Global, uid: &EntityUID, uses: &Uses) -> Mem<Type>
+fn context_of(alloc: Global, uid: &EntityUID, uses: &Uses, near: &mut Near) -> Mem<Type>
     ensures { IfOk result (λ ty. ty ≡ context_at_use (type_at_use uses.now (Context uid.now))) }
 {
-    match told_context(alloc, uid, uses)? {
+    match told_context(alloc, uid, uses, near)? {
         Some(ty) => Ok(ty),
         None => {
             let none = Attributes::from_map(Map::new(alloc));
@@ -83,14 +84,15 @@ fn action_node(
     outline: ActionOutline,
     children: &Children<EntityUID>,
     uses: &Uses,
+    searches: &mut Searches,
 ) -> Mem<(EntityUID, ValidatorActionId)>
     ensures { IfOk result
         (IsActionNode (names_of all_defs.now) children.now uses.now (uid, outline)) }
 {
     let principals = types_meant(alloc, all_defs, &outline.applies_to.principal_apply_spec)?;
     let resources = types_meant(alloc, all_defs, &outline.applies_to.resource_apply_spec)?;
-    let descendants = children_of(alloc, &uid, children)?;
-    let context = context_of(alloc, &uid, uses)?;
+    let descendants = children_of(alloc, &uid, children, &mut searches.children)?;
+    let context = context_of(alloc, &uid, uses, &mut searches.contexts)?;
     let key = uid.dup(alloc)?;
     let ActionOutline {
         parents: _,
@@ -124,8 +126,17 @@ fn action_nodes(
         (AllZip (IsActionNode (names_of all_defs.now) children.now uses.now) outlines) }
 {
     let mut nodes = Map::with_room(alloc, outlines.len())?;
+    let mut searches = Searches::none();
     for (uid, outline) in outlines.into_entries() {
-        let (key, action) = action_node(alloc, all_defs, uid, outline, children, uses)?;
+        let (key, action) = action_node(
+            alloc,
+            all_defs,
+            uid,
+            outline,
+            children,
+            uses,
+            &mut searches,
+        )?;
         nodes.push_last(key, action)?;
     }
     Ok(nodes)

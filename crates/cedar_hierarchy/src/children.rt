@@ -5,7 +5,7 @@ ghost use Rattle.cedar_data.specs.Maps.{get};
 ghost use Rattle.cedar_data.specs.Sets.{contains};
 ghost use Rattle.cedar_hierarchy.specs.Children.{children_at, is_child};
 
-use cedar_data::{Dup, Map, Mem, Set};
+use cedar_data::{Dup, Map, Mem, Near, Set};
 use std::alloc::Global;
 
 /// The children of each key that is a parent.
@@ -64,15 +64,16 @@ pub(crate) fn link<K: Ord + Dup + Drop>(
     Ok(())
 }
 
-/// The children of a key.
+/// The children of a key. The search begins where the last one ended.
 pub(crate) fn children_of<K: Ord + Dup + Drop>(
     alloc: Global,
     parent: &K,
     children: &Children<K>,
+    near: &mut Near,
 ) -> Mem<Set<K>>
     ensures { IfOk result (λ found. found ≡ children_at K.cmp children.now parent.now) }
 {
-    match children.get(parent) {
+    match children.get_near(near, parent) {
         Some(found) => found.dup(alloc),
         None => Ok(Set::new(alloc)),
     }

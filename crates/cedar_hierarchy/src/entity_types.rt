@@ -15,10 +15,11 @@ ghost use Rattle.cedar_tables.specs.Outlines.{entity_outline_in};
 
 use crate::children::{Children, children_of};
 use crate::gathered::{HasParents, gather};
+use crate::searches::Searches;
 use crate::targets::all_meant;
 use crate::uses::{Uses, copy_at, record_at};
 use cedar_closure::close_map;
-use cedar_data::{Dup, Failure, Map, Mem, NoMemory, Set, Text};
+use cedar_data::{Dup, Failure, Map, Mem, Near, NoMemory, Set, Text};
 use cedar_names::EntityType;
 use cedar_resolved::ValidatorEntityType;
 use cedar_schema_error::UsePlace;
@@ -36,19 +37,24 @@ impl HasParents<EntityType> for EntityOutline {
 }
 
 /// The attributes of the shape of an entity type, and whether it may have others.
-fn shape_of(alloc: Global, name: &EntityType, uses: &Uses) -> Mem<(Attributes, OpenTag)>
+fn shape_of(
+    alloc: Global,
+    name: &EntityType,
+    uses: &Uses,
+    near: &mut Near,
+) -> Mem<(Attributes, OpenTag)>
     ensures { IfOk result (λ r. r ≡ record_at_use (type_at_use uses.now (Shape name.now))) }
 {
     let place = UsePlace::Shape(name.dup(alloc)?);
-    record_at(alloc, uses, &place)
+    record_at(alloc, uses, near, &place)
 }
 
 /// The type of the tags of an entity type, if it has any.
-fn tags_of(alloc: Global, name: &EntityType, uses: &Uses) -> Mem<Option<Type>>
+fn tags_of(alloc: Global, name: &EntityType, uses: &Uses, near: &mut Near) -> Mem<Option<Type>>
     ensures { IfOk result (λ o. o ≡ type_at_use uses.now (Tags name.now)) }
 {
     let place = UsePlace::Tags(name.dup(alloc)?);
-    copy_at(alloc, uses, &place)
+    copy_at(alloc, uses, near, &place)
 }
 
 /// The entity type of this name with the attributes and tags of the uses, and with no descendants.
@@ -57,6 +63,7 @@ fn standard_type(
     name: EntityType,
     loc: Option<Loc>,
     uses: &Uses,
+    searches: &mut Searches,
 ) -> Mem<ValidatorEntityType>
     ensures name { IfOk result (λ ty. type_name ty ≡ name) }
     ensures attributes { IfOk result (λ ty. type_attributes ty
@@ -66,8 +73,8 @@ fn standard_type(
         (type_at_use uses.now (Tags name))) }
     ensures loc { IfOk result (λ ty. ty.loc ≡ loc) }
 {
-    let tags = tags_of(alloc, &name, uses)?;
-    let (attributes, tag) = shape_of(alloc, &name, uses)?;
+    let tags = tags_of(alloc, &name, uses, &mut searches.tags)?;
+    let (attributes, tag) = shape_of(alloc, &name, uses, &mut searches.shapes)?;
     ValidatorEntityType::new_standard(alloc, name, Vec::new(alloc), attributes, tag, tags, loc)
 }
 
@@ -79,6 +86,7 @@ fn childless(
     choices: Option<NonEmpty<Text>>,
     loc: Option<Loc>,
     uses: &Uses,
+    searches: &mut Searches,
 ) -> Mem<ValidatorEntityType>
     ensures name { IfOk result (λ ty. type_name ty ≡ name) }
     ensures attributes { IfOk result (λ ty. type_attributes ty
@@ -87,7 +95,7 @@ fn childless(
     ensures loc { IfOk result (λ ty. ty.loc ≡ loc) }
 {
     match choices {
-        None => standard_type(alloc, name, loc, uses),
+        None => standard_type(alloc, name, loc, uses, searches),
         Some(ids) => ValidatorEntityType::new_enum(alloc, name, Vec::new(alloc), ids, loc),
     }
 }
@@ -99,6 +107,7 @@ fn entity_node(
     outline: EntityOutline,
     children: &Children<EntityType>,
     uses: &Uses,
+    searches: &mut Searches,
 ) -> Mem<(EntityType, ValidatorEntityType)>
     ensures { IfOk result (IsEntityNode children.now uses.now (name, outline)) }
 {
@@ -107,9 +116,9 @@ fn entity_node(
         choices,
         loc,
     } = outline;
-    let descendants = children_of(alloc, &name, children)?;
+    let descendants = children_of(alloc, &name, children, &mut searches.children)?;
     let key = name.dup(alloc)?;
-    let mut ty = childless(alloc, name, choices, loc, uses)?;
+    let mut ty = childless(alloc, name, choices, loc, uses, searches)?;
     ty.descendants = descendants;
     Ok((key, ty))
 }
@@ -124,8 +133,9 @@ fn entity_nodes(
     ensures { IfOk result (AllZip (IsEntityNode children.now uses.now) outlines) }
 {
     let mut nodes = Map::with_room(alloc, outlines.len())?;
+    let mut searches = Searches::none();
     for (name, outline) in outlines.into_entries() {
-        let (key, ty) = entity_node(alloc, name, outline, children, uses)?;
+        let (key, ty) = entity_node(alloc, name, outline, children, uses, &mut searches)?;
         nodes.push_last(key, ty)?;
     }
     Ok(nodes)

@@ -6,6 +6,7 @@ mod actions;
 mod children;
 mod entity_types;
 mod gathered;
+mod searches;
 mod targets;
 mod uses;
 
