@@ -60,7 +60,7 @@ fn resolve_tables(
         actions,
     } = tables;
     match unfolded_types(alloc, all_defs, common_types, uses, extensions) {
-        Ok(types) => assemble(alloc, all_defs, &types, entity_types, actions),
+        Ok(types) => assemble(alloc, all_defs, types, entity_types, actions),
         Err(failure) => Err(failure),
     }
 }

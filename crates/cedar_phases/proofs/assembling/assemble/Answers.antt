@@ -1,4 +1,5 @@
 -- SPDX-License-Identifier: Apache-2.0
+use Rattle.cedar_names.specs.Components.{components}
 use Rattle.cedar_names.specs.declared.entity_uid.EntityUID.{EntityUID}
 use Rattle.cedar_resolved.specs.declared.action.ValidatorActionId.{ValidatorActionId}
 use Rattle.cedar_resolved.specs.declared.schema.ValidatorSchema.{ValidatorSchema}
@@ -9,13 +10,12 @@ use Rattle.cedar_declared.specs.Held.{names_of}
 use Rattle.cedar_hierarchy.specs.Made.{MakesEntity}
 use Rattle.cedar_hierarchy.specs.Outlined.{ActionOutlineDescends}
 use Rattle.cedar_phases.specs.Holding.{AllPassed, HoldsUnfolded, OneRefuses, last_phases}
-use Rattle.cedar_phases.specs.NotDeclared.{AreNotDeclared}
 use Rattle.cedar_phases.specs.SchemaViews.{IsNamed, schema_in, types_of}
 use Rattle.cedar_phases.proofs.Assembled.{all_are_declared, cycle_told, denoted, named, no_cycles, undeclared_told}
 use Rattle.cedar_phases.proofs.Carried.{carried_text, passed, passed_both, refused}
 use Rattle.cedar_phases.proofs.assembling.assemble.Goals as goal
 use Rattle.cedar_resolved.specs.Schemas.{action_types}
-use Rattle.cedar_schema_error.specs.FullNames.{FullName, Uid, uid_cmp}
+use Rattle.cedar_schema_error.specs.FullNames.{Uid, uid_cmp}
 use Rattle.cedar_schema_error.specs.Refusals.{CycleInActionHierarchy}
 use Rattle.cedar_schema_error.specs.Told.{told}
 use Rattle.cedar_hierarchy.specs.of_tables.Outlines.{action_outline_in, entity_outline_in}
@@ -25,25 +25,25 @@ use Rattle.cedar_qualified.specs.of_world.Worlds.{World}
 
 pub returns-in-Ok-clause-passes : goal.returns-in-Ok-clause-passes
 returns-in-Ok-clause-passes c =
-    passed (λ _. (ns : List FullName) × AreNotDeclared (names_of c.args.all_defs.now) c.args.types.now.full.common_types c.args.types.now.full.uses c.in_ok-memberships.memberships.items ns × (undeclared_refusal (filter is_free ns) ≡ None)) (λ _. (W : World) → HoldsUnfolded W c.args.all_defs.now c.args.types.now.full.common_types c.args.types.now.full.uses c.args.types.now.uses c.args.entity_types c.args.actions → AllPassed W last_phases)
-    (λ _ d W h. (no_cycles W c.args.all_defs.now c.args.types.now.full.common_types c.args.types.now.full.uses c.args.types.now.uses c.args.entity_types c.args.actions h c.in-Ok.ensures.acyclic, (all_are_declared W c.args.all_defs.now c.args.types.now.full.common_types c.args.types.now.full.uses c.args.types.now.uses c.args.entity_types c.args.actions h c.in_ok-memberships.memberships.items c.in_ok-memberships.ensures d.0 d.1 d.2, tt))) c.finish.result c.finish.ensures.declared
+    passed (λ _. undeclared_refusal (filter is_free (map components c.in_ok-undeclared.undeclared)) ≡ None) (λ _. (W : World) → HoldsUnfolded W c.args.all_defs.now c.args.types.full.common_types c.args.types.full.uses c.args.types.uses c.args.entity_types c.args.actions → AllPassed W last_phases)
+    (λ _ d W h. (no_cycles W c.args.all_defs.now c.args.types.full.common_types c.args.types.full.uses c.args.types.uses c.args.entity_types c.args.actions h c.in-Ok.ensures.acyclic, (all_are_declared W c.args.all_defs.now c.args.types.full.common_types c.args.types.full.uses c.args.types.uses c.args.entity_types c.args.actions h c.in_ok-memberships.memberships.items c.in_ok-memberships.ensures (map components c.in_ok-undeclared.undeclared) c.in_ok-undeclared.ensures d, tt))) c.finish.result c.finish.ensures.declared
 
 pub returns-in-Ok-clause-denotes : goal.returns-in-Ok-clause-denotes
 returns-in-Ok-clause-denotes c =
-    passed_both (λ S. AllZip (MakesEntity (names_of c.args.all_defs.now) (map entity_outline_in c.args.entity_types) c.args.types.now.uses) c.args.entity_types (types_of S)) (λ S. action_types S ≡ c.in-Ok.actions) (λ S. (W : World) → HoldsUnfolded W c.args.all_defs.now c.args.types.now.full.common_types c.args.types.now.full.uses c.args.types.now.uses c.args.entity_types c.args.actions → Denotes W (schema_in S))
-    (λ S zip is W h. denoted W c.args.all_defs.now c.args.types.now.full.common_types c.args.types.now.full.uses c.args.types.now.uses c.args.entity_types c.args.actions h S c.in-Ok.actions zip c.in-Ok.ensures.made is) c.finish.result c.finish.ensures.entity_types c.finish.ensures.actions
+    passed_both (λ S. AllZip (MakesEntity (names_of c.args.all_defs.now) (map entity_outline_in c.args.entity_types) c.args.types.uses) c.args.entity_types (types_of S)) (λ S. action_types S ≡ c.in-Ok.actions) (λ S. (W : World) → HoldsUnfolded W c.args.all_defs.now c.args.types.full.common_types c.args.types.full.uses c.args.types.uses c.args.entity_types c.args.actions → Denotes W (schema_in S))
+    (λ S zip is W h. denoted W c.args.all_defs.now c.args.types.full.common_types c.args.types.full.uses c.args.types.uses c.args.entity_types c.args.actions h S c.in-Ok.actions zip c.in-Ok.ensures.made is) c.finish.result c.finish.ensures.entity_types c.finish.ensures.actions
 
 pub returns-in-Ok-clause-named : goal.returns-in-Ok-clause-named
 returns-in-Ok-clause-named c =
-    passed_both (λ S. AllZip (MakesEntity (names_of c.args.all_defs.now) (map entity_outline_in c.args.entity_types) c.args.types.now.uses) c.args.entity_types (types_of S)) (λ S. action_types S ≡ c.in-Ok.actions) IsNamed
-    (λ S zip is. named c.args.all_defs.now c.args.types.now.uses c.args.entity_types c.args.actions S c.in-Ok.actions zip c.in-Ok.ensures.made is) c.finish.result c.finish.ensures.entity_types c.finish.ensures.actions
+    passed_both (λ S. AllZip (MakesEntity (names_of c.args.all_defs.now) (map entity_outline_in c.args.entity_types) c.args.types.uses) c.args.entity_types (types_of S)) (λ S. action_types S ≡ c.in-Ok.actions) IsNamed
+    (λ S zip is. named c.args.all_defs.now c.args.types.uses c.args.entity_types c.args.actions S c.in-Ok.actions zip c.in-Ok.ensures.made is) c.finish.result c.finish.ensures.entity_types c.finish.ensures.actions
 
 pub returns-in-Ok-clause-refused : goal.returns-in-Ok-clause-refused
 returns-in-Ok-clause-refused c =
-    refused (λ e. (ns : List FullName) × AreNotDeclared (names_of c.args.all_defs.now) c.args.types.now.full.common_types c.args.types.now.full.uses c.in_ok-memberships.memberships.items ns × (undeclared_refusal (filter is_free ns) ≡ Some (told e))) (λ e. (W : World) → HoldsUnfolded W c.args.all_defs.now c.args.types.now.full.common_types c.args.types.now.full.uses c.args.types.now.uses c.args.entity_types c.args.actions → OneRefuses W last_phases (told e))
-    (λ e d W h. inr (no_cycles W c.args.all_defs.now c.args.types.now.full.common_types c.args.types.now.full.uses c.args.types.now.uses c.args.entity_types c.args.actions h c.in-Ok.ensures.acyclic, inl (undeclared_told W c.args.all_defs.now c.args.types.now.full.common_types c.args.types.now.full.uses c.args.types.now.uses c.args.entity_types c.args.actions h c.in_ok-memberships.memberships.items c.in_ok-memberships.ensures (told e) d.0 d.1 d.2))) c.finish.result c.finish.ensures.refused
+    refused (λ e. undeclared_refusal (filter is_free (map components c.in_ok-undeclared.undeclared)) ≡ Some (told e)) (λ e. (W : World) → HoldsUnfolded W c.args.all_defs.now c.args.types.full.common_types c.args.types.full.uses c.args.types.uses c.args.entity_types c.args.actions → OneRefuses W last_phases (told e))
+    (λ e d W h. inr (no_cycles W c.args.all_defs.now c.args.types.full.common_types c.args.types.full.uses c.args.types.uses c.args.entity_types c.args.actions h c.in-Ok.ensures.acyclic, inl (undeclared_told W c.args.all_defs.now c.args.types.full.common_types c.args.types.full.uses c.args.types.uses c.args.entity_types c.args.actions h c.in_ok-memberships.memberships.items c.in_ok-memberships.ensures (told e) (map components c.in_ok-undeclared.undeclared) c.in_ok-undeclared.ensures d))) c.finish.result c.finish.ensures.refused
 
 pub returns-in-Err-clause-refused : goal.returns-in-Err-clause-refused
 returns-in-Err-clause-refused c =
     carried_text (List (EntityUID × ValidatorActionId)) ValidatorSchema (λ e. (uid : Uid) × (told e ≡ CycleInActionHierarchy uid) × IsLeast uid_cmp (λ u. ActionOutlineDescends (names_of c.args.all_defs.now) (map action_outline_in c.args.actions) u u) uid)
-    (λ e. (W : World) → HoldsUnfolded W c.args.all_defs.now c.args.types.now.full.common_types c.args.types.now.full.uses c.args.types.now.uses c.args.entity_types c.args.actions → OneRefuses W last_phases (told e)) (λ e d W h. inl (cycle_told W c.args.all_defs.now c.args.types.now.full.common_types c.args.types.now.full.uses c.args.types.now.uses c.args.entity_types c.args.actions h (told e) d)) c.in-Err.failure c.in-Err.ensures.refused
+    (λ e. (W : World) → HoldsUnfolded W c.args.all_defs.now c.args.types.full.common_types c.args.types.full.uses c.args.types.uses c.args.entity_types c.args.actions → OneRefuses W last_phases (told e)) (λ e d W h. inl (cycle_told W c.args.all_defs.now c.args.types.full.common_types c.args.types.full.uses c.args.types.uses c.args.entity_types c.args.actions h (told e) d)) c.in-Err.failure c.in-Err.ensures.refused
