@@ -64,10 +64,21 @@ def many(piece):
     return "".join(piece(i) for i in range(LIMIT // len(piece(0))))
 
 
-def equal_parents():
-    """An entity type with the same parent again and again, up to the program's limit."""
-    head, tail = "entity B; entity A in [B", "];"
-    return head + ",B" * ((LIMIT - len(head) - len(tail)) // 2) + tail
+def again(head, piece, tail):
+    """The same piece again and again between the head and the tail, up to the program's limit."""
+    return head + piece * ((LIMIT - len(head) - len(tail)) // len(piece)) + tail
+
+
+def short_name(i):
+    """A word of five characters, another one for each number."""
+    digits = "0123456789abcdefghijklmnopqrstuvwxyz"
+    return "x" + "".join(digits[i // 36 ** k % 36] for k in (3, 2, 1, 0))
+
+
+def listed(head, tail):
+    """Distinct names with commas between the head and the tail, as many as fit."""
+    count = (LIMIT - len(head) - len(tail)) // 6
+    return head + ",".join(short_name(i) for i in range(count)) + tail
 
 
 def undefined(n):
@@ -130,7 +141,17 @@ def print_flat(program):
 
 def print_large(program):
     cases = [("distinct entity types without anything", many(lambda i: f"entity E{i:06};"), 0),
-             ("an entity type with two million equal parents", equal_parents(), 0),
+             ("distinct actions without anything", many(lambda i: f"action {short_name(i)};"), 0),
+             ("distinct actions in one", "action z;" + many(lambda i: f"action {short_name(i)} in z;")[:-18], 0),
+             ("an entity type with two million equal parents", again("entity B; entity A in [B", ",B", "];"), 0),
+             ("an action with two million equal parents", again("action b; action A in [b", ",b", "];"), 0),
+             ("an action with two million equal principals",
+              again("entity B; action A appliesTo { principal: [B", ",B", "], resource: B };"), 0),
+             ("one declaration of distinct entity types with attributes",
+              listed("entity ", " { a: Long, b: Long, c: Set<x0000> };"), 0),
+             ("one declaration of distinct actions", listed("action ", ";"), 0),
+             ("one declaration of distinct actions with a context",
+              listed("entity B; action ", " appliesTo { principal: B, resource: B, context: { a: Long } };"), 0),
              ("150,000 entity types, each with an undefined type", undefined(150000), 1)]
     print_head("text", "bytes", "seconds (processor)", "peak MB", *PEER_COLUMNS)
     for name, text, status in cases:
