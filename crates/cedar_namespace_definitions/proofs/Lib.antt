@@ -1,6 +1,9 @@
 -- SPDX-License-Identifier: Apache-2.0
 pub mod ActionLoops
+pub mod ActionParts
 pub mod Defines
+pub mod DistinctApplication
+pub mod DistinctNames
 pub mod DistinctParents
 pub mod Faultless
 pub mod Loops

@@ -29,8 +29,9 @@ use Rattle.cedar_written.specs.declared.ty.SchemaType.{SchemaType}
 use Rattle.cedar_written.specs.declared.ty.SchemaType.TheVariants as type
 use Rattle.cedar_written.specs.declared.ty.TypeVariant.TheVariants as variant
 use Rattle.cedar_fragment.specs.ActionUids.{over_conditional, over_raw}
-use Rattle.cedar_fragment.specs.Definitions.{through_action, through_entity}
+use Rattle.cedar_fragment.specs.Definitions.{through_action, through_apply, through_entity, through_uid}
 use Rattle.cedar_fragment.specs.Shapes.{type_of_shape}
+use Rattle.cedar_fragment.specs.declared.action_uid.ActionEntityUID.{ActionEntityUID}
 use Rattle.cedar_fragment.specs.declared.definitions.ActionType.{ActionType}
 use Rattle.cedar_fragment.specs.declared.definitions.ApplySpec.{ApplySpec}
 use Rattle.cedar_fragment.specs.declared.definitions.CommonType.{CommonType}
@@ -142,9 +143,21 @@ module _ {N : Type 0} where
     resource_apply_spec = set_of cmp (resources_in a);
   }
 
+  -- what an action applies to, with principals and resources in order, of equal ones the first alone
+  abbrev pub distinct_application : (N → N → Ordering) → ApplySpec N → ApplySpec N
+  distinct_application cmp a = record { resource_types = set_of cmp a.resource_types; principal_types = set_of cmp a.principal_types; context = a.context }
+
+-- what an action applies to, each reference with the names that it may stand for
+abbrev pub applied_in : Option InternalName → Option (ApplySpec RawName) → Option (ApplySpec ConditionalName)
+applied_in ns a = option_map (λ a. sure (through_apply (qualifying ns) a)) a
+
 -- parents are a set
 abbrev pub parents_in : {K : Type 0} → (K → K → Ordering) → Option (List K) → List K
 parents_in cmp parents = set_of cmp (unwrap_or parents [])
+
+-- a parent, its type with the names that it may stand for
+abbrev pub parent_in : Option InternalName → ActionEntityUID RawName over_raw → ActionEntityUID ConditionalName over_conditional
+parent_in ns parent = sure (through_uid over_raw over_conditional (qualifying ns) parent)
 
 -- an action with attributes of these types
 abbrev pub action_made : {N : Type 0} {R : ref_name.Ghosts N} → (N → N → Ordering) → Attributes → ActionType N R → ActionFragment N N R

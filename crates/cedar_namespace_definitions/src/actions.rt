@@ -2,27 +2,28 @@
 ghost use Rattle.std.specs.Prelude.{◌≡◌, [], map, unwrap_or, IfOk, OnOk};
 ghost use Rattle.std.specs.BTreeMap.{insert_entry};
 ghost use Rattle.std.specs.List.{flat_map};
-ghost use Rattle.std.specs.Option.{option_copied};
+ghost use Rattle.std.specs.Option.{option_copied, option_map};
 ghost use Rattle.cedar_data.specs.Answers.{IfRefused};
 ghost use Rattle.cedar_data.specs.Firsts.{IsFirst};
+ghost use Rattle.cedar_data.specs.Sets.{set_of};
 ghost use Rattle.cedar_names.specs.Components.{components};
 ghost use Rattle.cedar_written.specs.Qualifying.{qualifying};
 ghost use Rattle.cedar_fragment.specs.ActionUids.{over_conditional, over_raw};
 ghost use Rattle.cedar_fragment.specs.Definitions.{through_action};
-ghost use Rattle.cedar_namespace_definitions.specs.Orders.{conditional_cmp};
+ghost use Rattle.cedar_namespace_definitions.specs.Orders.{conditional_cmp, parent_cmp};
 ghost use Rattle.cedar_schema_error.specs.Told.{told};
-ghost use Rattle.cedar_namespace_definitions.specs.Definitions.{action_in, action_made, application_in, context_in, no_values, parents_in, sure, types_in, with_keys};
+ghost use Rattle.cedar_namespace_definitions.specs.Definitions.{action_in, action_made, application_in, applied_in, context_in, distinct_application, no_values, parent_in, parents_in, sure, types_in, with_keys};
 ghost use Rattle.cedar_namespace_definitions.specs.Faults.{action_faults};
 ghost use Rattle.cedar_namespace_definitions.specs.NamesIn.{action_at, action_key, action_key_cmp, action_type_in, reserved_in};
 
 use crate::action_attributes::types_in;
 use crate::names::action_at;
-use crate::sets::set_of;
+use crate::sets::{distinct, set_of};
 use cedar_data::{Dup, Items, Map, Mem, Out, Set, Text};
 use cedar_definitions::{ActionFragment, ActionsDef, ValidatorApplySpec};
 use cedar_fragment::{
-    ActionType, ApplySpec, AttributesOrContext, ConditionalName, Qualifying, RawName, RefName,
-    SchemaType, ValueMap, walk_unrefused,
+    ActionEntityUID, ActionType, ApplySpec, AttributesOrContext, ConditionalName, Qualifying,
+    RawName, SchemaType, ValueMap, walk_unrefused,
 };
 use cedar_names::EntityUID;
 use cedar_schema_error::SchemaError;
@@ -54,12 +55,83 @@ fn application_in<N: Ord + Drop>(
     Ok((context.into_inner(), applies_to))
 }
 
+/// What an action applies to, with principals and resources in order, of equal ones the first alone.
+fn distinct_application<N: Ord + Drop>(
+    alloc: Global,
+    applies_to: Option<ApplySpec<N>>,
+) -> Mem<Option<ApplySpec<N>>>
+    ensures { IfOk result (λ made. made ≡ option_map (distinct_application N.cmp) applies_to) }
+{
+    let Some(applies_to) = applies_to else {
+        return Ok(None);
+    };
+    let ApplySpec {
+        resource_types,
+        principal_types,
+        context,
+    } = applies_to;
+    let principal_types = distinct(alloc, principal_types)?;
+    let resource_types = distinct(alloc, resource_types)?;
+    Ok(Some(ApplySpec {
+        resource_types,
+        principal_types,
+        context,
+    }))
+}
+
+/// The context of an action, and what it applies to, as sets, with what each name in them may stand for. Equal
+/// principals and equal resources are dropped first, since a name with all that it may stand for takes much memory.
+fn application_made(
+    alloc: Global,
+    step: &Qualifying<'_>,
+    applies_to: Option<ApplySpec<RawName>>,
+) -> Mem<
+    (
+        SchemaType<ConditionalName>,
+        ValidatorApplySpec<ConditionalName>,
+    ),
+>
+    ensures context { IfOk result (λ made. made.0
+        ≡ context_in (applied_in (option_copied step.now.namespace) applies_to)) }
+    ensures types { IfOk result (λ made. made.1
+        ≡ application_in conditional_cmp
+        (applied_in (option_copied step.now.namespace) applies_to)) }
+{
+    let applies_to = distinct_application(alloc, applies_to)?;
+    let applies_to = walk_unrefused(alloc, step, applies_to)?;
+    application_in(alloc, applies_to)
+}
+
+/// The set of the parents, with what the type of each may stand for. Of equal ones a single one is held at a time.
+fn parent_set(
+    alloc: Global,
+    step: &Qualifying<'_>,
+    parents: Items<ActionEntityUID<RawName>>,
+) -> Mem<Set<ActionEntityUID<ConditionalName>>>
+    ensures { IfOk result (λ set. set
+        ≡ set_of (parent_cmp conditional_cmp)
+        (map (parent_in (option_copied step.now.namespace)) parents)) }
+{
+    let mut set = Set::new(alloc);
+    for parent in parents.into_vec() {
+        let parent = walk_unrefused(alloc, step, parent)?;
+        set.insert(parent)?;
+    }
+    Ok(set)
+}
+
 /// The parents of an action, as a set.
-fn parents_in<K: Ord + Drop>(alloc: Global, parents: Option<Items<K>>) -> Mem<Set<K>>
-    ensures { IfOk result (λ made. made ≡ parents_in K.cmp parents) }
+fn parents_made(
+    alloc: Global,
+    step: &Qualifying<'_>,
+    parents: Option<Items<ActionEntityUID<RawName>>>,
+) -> Mem<Set<ActionEntityUID<ConditionalName>>>
+    ensures { IfOk result (λ made. made
+        ≡ parents_in (parent_cmp conditional_cmp)
+        (option_map (map (parent_in (option_copied step.now.namespace))) parents)) }
 {
     match parents {
-        Some(parents) => set_of(alloc, parents),
+        Some(parents) => parent_set(alloc, step, parents),
         None => Ok(Set::new(alloc)),
     }
 }
@@ -72,33 +144,6 @@ fn values_in(alloc: Global, attributes: Option<ValueMap>) -> ValueMap
         Some(values) => values,
         None => ValueMap::new(alloc),
     }
-}
-
-/// An action with attributes of these types.
-fn action_made<N: RefName + Ord + Drop>(
-    alloc: Global,
-    attribute_types: Attributes,
-    action: ActionType<N>,
-) -> Mem<ActionFragment<N, N>>
-    ensures { IfOk result (λ made. made ≡ action_made N.cmp attribute_types action) }
-{
-    let ActionType {
-        attributes,
-        applies_to,
-        member_of,
-        annotations: _,
-        loc,
-    } = action;
-    let (context, applies_to) = application_in(alloc, applies_to)?;
-    let parents = parents_in(alloc, member_of)?;
-    Ok(ActionFragment {
-        context,
-        applies_to,
-        parents,
-        attribute_types,
-        attributes: values_in(alloc, attributes),
-        loc,
-    })
 }
 
 /// The id of an action of the namespace, at its place; refused where the namespace has `__cedar`.
@@ -144,7 +189,6 @@ fn action_head(
 }
 
 /// What an action is, with what each name in it may stand for, and with attributes of these types.
-#[tactic(auto, using(crate::proofs::Sure::is_sure))]
 fn fragment_of(
     alloc: Global,
     step: &Qualifying<'_>,
@@ -155,8 +199,23 @@ fn fragment_of(
         (sure (through_action over_raw over_conditional
         (qualifying (option_copied step.now.namespace)) action))) }
 {
-    let action = walk_unrefused(alloc, step, action)?;
-    action_made(alloc, attribute_types, action)
+    let ActionType {
+        attributes,
+        applies_to,
+        member_of,
+        annotations: _,
+        loc,
+    } = action;
+    let (context, applies_to) = application_made(alloc, step, applies_to)?;
+    let parents = parents_made(alloc, step, member_of)?;
+    Ok(ActionFragment {
+        context,
+        applies_to,
+        parents,
+        attribute_types,
+        attributes: values_in(alloc, attributes),
+        loc,
+    })
 }
 
 /// Puts an action of this id to the others, with attributes of these types.
