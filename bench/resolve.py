@@ -8,8 +8,8 @@ PROGRAM is a built program; without it, the one that the script `joistginger` at
 the top builds. Each row is the best of three runs. The first table has declarations
 of five attributes, by their number; the second has memberships, by the number of
 pairs of a type and one that descends from it, which the listing writes; the third
-says what 20,000 memberships in one type cost; the fourth has the texts that want the
-most memory. Where JOISTGINGER_PEER names another program, each row has its time too.
+says what 20,000 memberships in one type cost; the fourth has texts that want the most
+memory, or the most time, of one thing. Where JOISTGINGER_PEER names another program, each row has its time too.
 """
 import subprocess
 
@@ -142,6 +142,7 @@ def print_flat(program):
 def print_large(program):
     cases = [("distinct entity types without anything", many(lambda i: f"entity E{i:06};"), 0),
              ("distinct actions without anything", many(lambda i: f"action {short_name(i)};"), 0),
+             # without its last piece, so that there is room for `action z;`
              ("distinct actions in one", "action z;" + many(lambda i: f"action {short_name(i)} in z;")[:-18], 0),
              ("an entity type with two million equal parents", again("entity B; entity A in [B", ",B", "];"), 0),
              ("an action with two million equal parents", again("action b; action A in [b", ",b", "];"), 0),
