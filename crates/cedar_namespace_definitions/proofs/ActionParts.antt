@@ -4,7 +4,6 @@ use Rattle.std.proofs.Common.{◌≡◌, List, ◌∷◌, map, fold, Option, Som
 use Rattle.std.specs.BTreeSet.{insert_key}
 use Rattle.std.specs.declared.cmp.Ordering.{Ordering}
 use Rattle.std.specs.declared.result.Result.{Result}
-use Rattle.std.specs.declared.result.Result.TheVariants.{Ok}
 use Rattle.cedar_names.specs.declared.internal_name.InternalName.{InternalName}
 use Rattle.cedar_types.specs.declared.ty.Attributes.{Attributes}
 use Rattle.cedar_types.specs.declared.value.ValueMap.{ValueMap}
@@ -23,7 +22,6 @@ use Rattle.cedar_definitions.specs.declared.structures.ActionFragment.{ActionFra
 use Rattle.cedar_definitions.specs.declared.structures.ValidatorApplySpec.{ValidatorApplySpec}
 use Rattle.cedar_namespace_definitions.specs.Definitions.{action_made, application_in, applied_in, context_in, no_values, parent_in, parents_in, sure}
 use Rattle.cedar_namespace_definitions.specs.Orders.{conditional_cmp, parent_cmp}
-use Rattle.cedar_namespace_definitions.proofs.Sure.{is_sure}
 use Rattle.cedar_namespace_definitions.proofs.SureSteps.{sure_items, sure_option, sure_two}
 
 module _ (ns : Option InternalName) where
@@ -41,7 +39,6 @@ module _ (ns : Option InternalName) where
   whole : (a : ActionType RawName over_raw) → sure (through_action over_raw over_conditional (qualifying ns) a) ≡ with_parts a (applied_in ns a.applies_to) (option_map (map (parent_in ns)) a.member_of)
   whole a =
       sure_two (in_option (option_map (through_apply (qualifying ns)) a.applies_to)) (in_option (option_map through_uids a.member_of)) (with_parts a)
-      ∙ ap (λ applies_to. with_parts a applies_to (sure (in_option (option_map through_uids a.member_of)))) (sure_option (through_apply (qualifying ns)) a.applies_to)
       ∙ ap (with_parts a (applied_in ns a.applies_to)) (parents_are a.member_of)
 
   -- such an action is made of what its parts become
@@ -56,8 +53,8 @@ module _ (ns : Option InternalName) where
   -- one parent more in the set of parents
   pub parent_next : (cmp : ActionEntityUID ConditionalName over_conditional → ActionEntityUID ConditionalName over_conditional → Ordering) (set : List (ActionEntityUID ConditionalName over_conditional)) (parent : ActionEntityUID RawName over_raw)
       (full : ActionEntityUID ConditionalName over_conditional) {all more : List (ActionEntityUID ConditionalName over_conditional)} {left rest : List (ActionEntityUID RawName over_raw)}
-      → fold (insert_key cmp) set (map (parent_in ns) left) ≡ all → left ≡ parent ∷ rest → through_uid over_raw over_conditional (qualifying ns) parent ≡ Ok full → more ≡ insert_key cmp set full
+      → fold (insert_key cmp) set (map (parent_in ns) left) ≡ all → left ≡ parent ∷ rest → full ≡ parent_in ns parent → more ≡ insert_key cmp set full
       → fold (insert_key cmp) more (map (parent_in ns) rest) ≡ all
   parent_next cmp set parent full {rest = rest} sofar first through put =
-      ap (λ set. fold (insert_key cmp) set (map (parent_in ns) rest)) (put ∙ ap (insert_key cmp set) (is_sure (through_uid over_raw over_conditional (qualifying ns) parent) full through))
+      ap (λ set. fold (insert_key cmp) set (map (parent_in ns) rest)) (put ∙ ap (insert_key cmp set) through)
       ∙ ap (λ left. fold (insert_key cmp) set (map (parent_in ns) left)) (sym first) ∙ sofar

@@ -16,6 +16,7 @@ use Rattle.cedar_text.specs.declared.location.Loc.{Loc}
 use Rattle.cedar_types.specs.Types.{attributes_of}
 use Rattle.cedar_types.specs.declared.ty.Attributes.{Attributes}
 use Rattle.cedar_types.specs.declared.value.ValueMap.{ValueMap, roll-ValueMap}
+use Rattle.cedar_written.specs.Answers.{in_option}
 use Rattle.cedar_written.specs.CommonTypeIds.{unreserved_of}
 use Rattle.cedar_written.specs.Qualifying.{qualifying}
 use Rattle.cedar_written.specs.Through.{through_type}
@@ -149,7 +150,7 @@ module _ {N : Type 0} where
 
 -- what an action applies to, each reference with the names that it may stand for
 abbrev pub applied_in : Option InternalName → Option (ApplySpec RawName) → Option (ApplySpec ConditionalName)
-applied_in ns a = option_map (λ a. sure (through_apply (qualifying ns) a)) a
+applied_in ns a = sure (in_option (option_map (through_apply (qualifying ns)) a))
 
 -- parents are a set
 abbrev pub parents_in : {K : Type 0} → (K → K → Ordering) → Option (List K) → List K

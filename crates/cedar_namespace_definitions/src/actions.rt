@@ -79,6 +79,19 @@ fn distinct_application<N: Ord + Drop>(
     }))
 }
 
+/// What an action applies to, with what each name in it may stand for.
+#[tactic(auto, using(crate::proofs::Sure::is_sure))]
+fn applied_in(
+    alloc: Global,
+    step: &Qualifying<'_>,
+    applies_to: Option<ApplySpec<RawName>>,
+) -> Mem<Option<ApplySpec<ConditionalName>>>
+    ensures { IfOk result (λ made. made
+        ≡ applied_in (option_copied step.now.namespace) applies_to) }
+{
+    walk_unrefused(alloc, step, applies_to)
+}
+
 /// The context of an action, and what it applies to, as sets, with what each name in them may stand for. Equal
 /// principals and equal resources are dropped first, since a name with all that it may stand for takes much memory.
 fn application_made(
@@ -98,11 +111,24 @@ fn application_made(
         (applied_in (option_copied step.now.namespace) applies_to)) }
 {
     let applies_to = distinct_application(alloc, applies_to)?;
-    let applies_to = walk_unrefused(alloc, step, applies_to)?;
+    let applies_to = applied_in(alloc, step, applies_to)?;
     application_in(alloc, applies_to)
 }
 
-/// The set of the parents, with what the type of each may stand for. Of equal ones a single one is held at a time.
+/// A parent, with what its type may stand for.
+#[tactic(auto, using(crate::proofs::Sure::is_sure))]
+fn parent_in(
+    alloc: Global,
+    step: &Qualifying<'_>,
+    parent: ActionEntityUID<RawName>,
+) -> Mem<ActionEntityUID<ConditionalName>>
+    ensures { IfOk result (λ made. made ≡ parent_in (option_copied step.now.namespace) parent) }
+{
+    walk_unrefused(alloc, step, parent)
+}
+
+/// The set of the parents, with what the type of each may stand for. Each is put in as soon as it is made, so that of
+/// equal ones the first alone takes memory.
 fn parent_set(
     alloc: Global,
     step: &Qualifying<'_>,
@@ -114,7 +140,7 @@ fn parent_set(
 {
     let mut set = Set::new(alloc);
     for parent in parents.into_vec() {
-        let parent = walk_unrefused(alloc, step, parent)?;
+        let parent = parent_in(alloc, step, parent)?;
         set.insert(parent)?;
     }
     Ok(set)
