@@ -127,8 +127,8 @@ def print_memberships(program):
 
 def print_flat(program):
     """What memberships cost: 20,000 types in one, and the same types in none."""
-    cases = [("20,000 in none", members([("G", None)] + [(f"M{i}", None) for i in range(20000)])),
-             ("20,000 in one", groups(1, 20000))]
+    in_one = groups(1, 20000)
+    cases = [("20,000 in none", in_one.replace(" in G0", "")), ("20,000 in one", in_one)]
     print_head("entity types", "seconds (processor)", "peak MB", "cost of those in none", *PEER_COLUMNS)
     least = None
     for name, text in cases:

@@ -1,6 +1,6 @@
 -- SPDX-License-Identifier: Apache-2.0
 -- A loop that closes the edges of one node after another.
-use Rattle.std.proofs.Common.{◌≡◌, replicate, ℕ, ◌+◌, ◌<◌, ◌≤◌, ◌↔◌, ◌⊎◌, Bool, true, List, [], ◌∷◌, ◌++◌, length, get_or, zero, suc, Some, All, Contains, refl, sym, ap, ◌∙◌, subst, inr, ⊎_elim, arith, append_assoc}
+use Rattle.std.proofs.Common.{◌≡◌, replicate, ℕ, ◌+◌, ◌<◌, ◌≤◌, ◌↔◌, ◌⊎◌, Bool, true, false, cond, List, [], ◌∷◌, ◌++◌, length, get_or, zero, suc, Some, All, Contains, refl, sym, ap, ◌∙◌, subst, inr, ⊎_elim, arith, append_assoc}
 use Rattle.std.proofs.lemmas.Bool.{cases_lt, cases_eq}
 use Rattle.std.proofs.lemmas.Cmp.{alike_right, eq_by_cmp_equiv}
 use Rattle.std.proofs.lemmas.List.{append-nil, get_or_at, map-append, length-append, length-replicate}
@@ -24,8 +24,8 @@ use Rattle.cedar_names.specs.of_data.Sets.{contains}
 use Rattle.cedar_closure.specs.Chains.{Reaches, one, more}
 use Rattle.cedar_closure.specs.Closure.{edges_of, HasEdge, IsAcyclic, IsLeastOnCycle, Closes, IsClosure}
 use Rattle.cedar_closure.specs.Marks.{Leads}
-use Rattle.cedar_closure.specs.Places.{place, Chained, AreKeysOf, rows_at}
-use Rattle.cedar_closure.proofs.KeyChains.{some_parts, some_and, equal_at_place, place-same, node_of_edge, place-node, chained_iff}
+use Rattle.cedar_closure.specs.Places.{place, Chained, LeadsTo, AreKeysOf, rows_at}
+use Rattle.cedar_closure.proofs.KeyChains.{some_parts, some_and, equal_at_place, place-same, node_of_edge, place-node, leads-edge, edge-same, chained_iff}
 use Rattle.cedar_closure.proofs.PlaceLemmas.{equal_from_is_eq}
 
 less_not_equal : (o : Ordering) → o ≡ Less → is_eq o ≡ true → ⊥
@@ -161,6 +161,14 @@ module _ {K V : Type 0} {cmp : K → K → Ordering} (total : IsTotalOrder cmp) 
           let no : contains cmp [] b ≡ true = ap (λ l. contains cmp l b) (sym none) ∙ here in
           cc
 
+      -- the row at its key is of its edges
+      pub Closing-own : (to : K) → LeadsTo cmp keys rows k to → contains cmp (edges node) to ≡ true
+      Closing-own to h =
+          let (i, is, h') = some_parts (place cmp keys k) (λ i. IsSomeAnd (place cmp keys to) (λ j. Leads rows i j)) h in
+          let (j, at, leads) = some_parts (place cmp keys to) (λ j. Leads rows i j) h' in
+          let (e, at', step) = leads-edge total edges nodes keys of k i j is (subst (λ r. Leads r i j) made leads) in
+          ap (λ o. contains cmp (edges_of cmp edges o) to) (sym (get-entry total nodes sofar.done later k node sorted around)) ∙ edge-same total edges nodes keys of k to e (equal_at_place total keys to e j at at') step
+
       -- one node more
       pub Closing-next : {marks' : List ℕ} {closed' : List (K × V)} (new : V) (returns : Bool)
           → ((to : K) → (contains cmp (edges new) to ≡ true) ↔ ((contains cmp (edges node) to ≡ true) ⊎ Chained cmp keys rows k to))
@@ -235,3 +243,46 @@ module _ {K V : Type 0} {cmp : K → K → Ordering} (total : IsTotalOrder cmp) 
           subst (λ l. AllZip (Closes cmp key edges rest (HasEdge cmp edges nodes)) l closed) all sofar.zip,
           λ e k chain. let (k', stands, _, chain') = node_on_cycle total edges nodes keys of k chain in sofar.acyclic e k' (subst (λ l. Contains (keys_of l) k') (sym all) stands) chain',
         )
+
+-- where no node has an edge, no key has one
+edges_at-none : {K V : Type 0} (cmp : K → K → Ordering) (edges : V → List K) (nodes : List (K × V)) → ((entry : K × V) → Contains nodes entry → edges entry.1 ≡ []) → (a : K) → edges_of cmp edges (get cmp nodes a) ≡ []
+edges_at-none cmp edges [] none a = refl
+edges_at-none cmp edges (e ∷ es) none a = by (is_at (cmp a) e.0) (edges_at-none cmp edges es (λ entry c. none entry (Contains-append_right (e ∷ []) es entry c)) a)
+  where
+    by : (t : Bool) → edges_of cmp edges (get cmp es a) ≡ [] → edges_of cmp edges (cond t (Some e.1) (get cmp es a)) ≡ []
+    by true rest = none e (0, omega arith, refl)
+    by false rest = rest
+
+module _ {K V : Type 0} (cmp : K → K → Ordering) (edges : V → List K) (nodes : List (K × V)) (none : All (λ entry. edges entry.1 ≡ []) nodes) where
+  no_edge : (entry : K × V) → Contains nodes entry → edges entry.1 ≡ []
+  no_edge entry c = All-contains (λ e. edges e.1 ≡ []) nodes entry none c
+
+  no_chain : (a b : K) → Reaches (HasEdge cmp edges nodes) a b → ⊥
+  no_chain a b chain =
+      let (c, step) = first_step chain in
+      let no : contains cmp [] c ≡ true = ap (λ l. contains cmp l c) (sym (edges_at-none cmp edges nodes no_edge a)) ∙ step in
+      cc
+
+module _ {K V : Type 0} (cmp : K → K → Ordering) (key : V → K) (edges : V → List K) (rest : V → V) (nodes : List (K × V)) (none : All (λ entry. edges entry.1 ≡ []) nodes) where
+  itself : (entry : K × V) → edges entry.1 ≡ [] → Closes cmp key edges rest (HasEdge cmp edges nodes) entry entry
+  unfolding IsStrictlySortedBy
+  itself entry is = record {
+    place = refl;
+    same_key = refl;
+    same_rest = refl;
+    leads = record {
+      ascends = subst (λ l. IsStrictlySortedBy cmp l) (sym is) tt;
+      members = λ to. (λ h. absurd (not_in to (ap (λ l. contains cmp l to) (sym is) ∙ h)), λ chain. absurd (no_chain cmp edges nodes none entry.0 to chain));
+    };
+  }
+    where
+      not_in : (to : K) → contains cmp [] to ≡ true → ⊥
+      not_in to h = cc
+
+  all_itself : (entries : List (K × V)) → ((entry : K × V) → Contains entries entry → edges entry.1 ≡ []) → AllZip (Closes cmp key edges rest (HasEdge cmp edges nodes)) entries entries
+  all_itself [] h = tt
+  all_itself (e ∷ es) h = (itself e (h e (0, omega arith, refl)), all_itself es (λ entry c. h entry (Contains-append_right (e ∷ []) es entry c)))
+
+  -- nodes without edges are closed, and no key reaches itself
+  pub closed_without_edges : IsClosure cmp key edges rest nodes nodes × IsAcyclic cmp edges nodes
+  closed_without_edges = (all_itself nodes (no_edge cmp edges nodes none), λ k chain. no_chain cmp edges nodes none k k chain)

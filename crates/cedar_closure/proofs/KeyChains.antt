@@ -154,13 +154,13 @@ module _ {K V : Type 0} {cmp : K → K → Ordering} (total : IsTotalOrder cmp) 
         (j, at, subst (λ row. Contains row j) (sym (row_of_place a i is)) (filter-to (place cmp keys) (edges_at cmp edges nodes a) e j (k, l, here) (sym (place-same total keys b e same) ∙ at)))
 
     -- what is in the row comes of an edge
-    leads-edge : (a : K) (i j : ℕ) → place cmp keys a ≡ Some i → Leads (rows_at cmp edges nodes keys) i j → (e : K) × (place cmp keys e ≡ Some j) × HasEdge cmp edges nodes a e
+    pub leads-edge : (a : K) (i j : ℕ) → place cmp keys a ≡ Some i → Leads (rows_at cmp edges nodes keys) i j → (e : K) × (place cmp keys e ≡ Some j) × HasEdge cmp edges nodes a e
     leads-edge a i j is h =
         let (e, c, at) = filter-from (place cmp keys) (edges_at cmp edges nodes a) j (subst (λ row. Contains row j) (row_of_place a i is) h) in
         (e, at, list_any-from_Contains (eq_by_cmp_equiv total) e (edges_at cmp edges nodes a) c)
 
     -- an edge leads to each key that is equal to one that it leads to
-    edge-same : (a b e : K) → is_at (cmp b) e ≡ true → HasEdge cmp edges nodes a e → HasEdge cmp edges nodes a b
+    pub edge-same : (a b e : K) → is_at (cmp b) e ≡ true → HasEdge cmp edges nodes a e → HasEdge cmp edges nodes a b
     edge-same a b e same h = ap (λ p. list_any p (edges_at cmp edges nodes a)) (same_test total b e same) ∙ h
 
     -- a chain of edges is a chain of rows

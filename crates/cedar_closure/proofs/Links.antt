@@ -1,15 +1,13 @@
 -- SPDX-License-Identifier: Apache-2.0
 -- A loop that adds an edge to each key whose position was found.
-use Rattle.std.proofs.Common.{◌≡◌, ℕ, ◌+◌, ◌<◌, ◌≤◌, ◌↔◌, ◌⊎◌, All, eqb, Bool, true, false, cond, List, [], ◌∷◌, ◌++◌, length, get_or, Some, Option, Contains, refl, sym, ap, ◌∙◌, subst, inl, inr, ⊎_elim, arith}
-use Rattle.std.proofs.lemmas.Bool.{cases_Bool, eqb-true, eq-eqb}
+use Rattle.std.proofs.Common.{◌≡◌, ℕ, ◌+◌, ◌<◌, ◌≤◌, ◌↔◌, ◌⊎◌, All, Bool, true, false, cond, List, [], ◌∷◌, ◌++◌, length, get_or, Some, Option, Contains, refl, sym, ap, ◌∙◌, subst, inl, inr, ⊎_elim, arith}
+use Rattle.std.proofs.lemmas.Bool.{cases_Bool}
 use Rattle.std.proofs.lemmas.Cmp.{eq_by_cmp_equiv}
 use Rattle.std.proofs.lemmas.List.Elements.{All-weaker, Contains-append_left, Contains-push, Contains-push_cases}
-use Rattle.std.proofs.lemmas.List.Folds.{Any-from_list_any, list_any-from_Any}
 use Rattle.std.proofs.lemmas.List.Quantifiers.{position-Some}
 use Rattle.std.specs.declared.cmp.Ordering.{Ordering}
 use Rattle.std.specs.BTreeMap.{is_at}
 use Rattle.std.specs.Cmp.{IsTotalOrder}
-use Rattle.std.specs.List.{list_any}
 use Rattle.std.specs.List.Sorted.{IsStrictlySortedBy}
 use Rattle.std.specs.Option.{IsSomeAnd}
 use Rattle.cedar_names.specs.of_data.Sets.{contains, Adds}
@@ -23,29 +21,26 @@ use Rattle.cedar_closure.proofs.PlaceLemmas.{place-of}
 pub at_some : {A : Type 0} {o : Option A} (P : A → Type 0) {x : A} → o ≡ Some x → IsSomeAnd o P → P x
 at_some P is h = subst (λ q. IsSomeAnd q P) is h
 
--- the test whether numbers contain one
-pub contains_iff : (found : List ℕ) (at : ℕ) (r : Bool) → r ≡ list_any (λ y. eqb y at) found → (r ≡ true) ↔ Contains found at
-contains_iff found at r is = (to, λ h. is ∙ list_any-from_Any (λ y. eqb y at) found (from h))
+-- from a key with a position, a chain of rows leads to the keys of its row, and to those whose positions were found beyond it
+pub chained_beyond : (rows : List (List ℕ)) (further : List ℕ) (at : ℕ) (a b : Option ℕ) → a ≡ Some at → ((j : ℕ) → (Leads rows at j ⊎ Contains further j) ↔ Reaches (Leads rows) at j)
+    → (IsSomeAnd a (λ i. IsSomeAnd b (λ j. Leads rows i j)) ⊎ IsSomeAnd b (Contains further)) ↔ IsSomeAnd a (λ i. IsSomeAnd b (λ j. Reaches (Leads rows) i j))
+chained_beyond rows further at a b is reached = (λ h. ⊎_elim direct beyond h, from)
   where
-    to : r ≡ true → Contains found at
-    to h = let (k, y, l, here, same) = Any-from_list_any (λ y. eqb y at) found (sym is ∙ h) in subst (λ n. Contains found n) (eqb-true y at same) (k, l, here)
+    chain : (j : ℕ) → b ≡ Some j → (Leads rows at j ⊎ Contains further j) → IsSomeAnd a (λ i. IsSomeAnd b (λ j. Reaches (Leads rows) i j))
+    chain j here h = some_and a (λ i. IsSomeAnd b (λ j. Reaches (Leads rows) i j)) at is (some_and b (λ j. Reaches (Leads rows) at j) j here ((reached j).0 h))
 
-    from : Contains found at → (k : ℕ) × (y : ℕ) × (k < length found) × (get_or found k y ≡ y) × (eqb y at ≡ true)
-    from (k, l, here) = (k, at, l, here, eq-eqb at at refl)
+    direct : IsSomeAnd a (λ i. IsSomeAnd b (λ j. Leads rows i j)) → IsSomeAnd a (λ i. IsSomeAnd b (λ j. Reaches (Leads rows) i j))
+    direct h = let (j, here, leads) = some_parts b (λ j. Leads rows at j) (at_some (λ i. IsSomeAnd b (λ j. Leads rows i j)) is h) in chain j here (inl leads)
 
--- from a key with a position, a chain leads to the keys whose positions were found from it
-pub chained_found : (rows : List (List ℕ)) (found : List ℕ) (at : ℕ) (a b : Option ℕ) → a ≡ Some at → ((j : ℕ) → Contains found j ↔ Reaches (Leads rows) at j) → IsSomeAnd b (Contains found) ↔ IsSomeAnd a (λ i. IsSomeAnd b (λ j. Reaches (Leads rows) i j))
-chained_found rows found at a b is reached = (to, from)
-  where
-    to : IsSomeAnd b (Contains found) → IsSomeAnd a (λ i. IsSomeAnd b (λ j. Reaches (Leads rows) i j))
-    to h =
-        let (j, here, c) = some_parts b (Contains found) h in
-        some_and a (λ i. IsSomeAnd b (λ j. Reaches (Leads rows) i j)) at is (some_and b (λ j. Reaches (Leads rows) at j) j here ((reached j).0 c))
+    beyond : IsSomeAnd b (Contains further) → IsSomeAnd a (λ i. IsSomeAnd b (λ j. Reaches (Leads rows) i j))
+    beyond h = let (j, here, c) = some_parts b (Contains further) h in chain j here (inr c)
 
-    from : IsSomeAnd a (λ i. IsSomeAnd b (λ j. Reaches (Leads rows) i j)) → IsSomeAnd b (Contains found)
+    from : IsSomeAnd a (λ i. IsSomeAnd b (λ j. Reaches (Leads rows) i j)) → IsSomeAnd a (λ i. IsSomeAnd b (λ j. Leads rows i j)) ⊎ IsSomeAnd b (Contains further)
     from h =
-        let (j, here, chain) = some_parts b (λ j. Reaches (Leads rows) at j) (at_some (λ i. IsSomeAnd b (λ j. Reaches (Leads rows) i j)) is h) in
-        some_and b (Contains found) j here ((reached j).1 chain)
+        let (j, here, way) = some_parts b (λ j. Reaches (Leads rows) at j) (at_some (λ i. IsSomeAnd b (λ j. Reaches (Leads rows) i j)) is h) in ⊎_elim
+        (λ x. inl (some_and a (λ i. IsSomeAnd b (λ j. Leads rows i j)) at is (some_and b (λ j. Leads rows at j) j here x)))
+        (λ x. inr (some_and b (Contains further) j here x))
+        ((reached j).1 way)
 
 -- marks that were early enough still are
 pub marks_later : (o : Option ℕ) (marks : List ℕ) → IsSomeAnd o (λ at. All (λ mark. mark ≤ at) marks) → IsSomeAnd o (λ at. All (λ mark. mark ≤ at + 1) marks)
@@ -53,9 +48,9 @@ marks_later o marks h =
     let (at, is, all) = some_parts o (λ at. All (λ mark. mark ≤ at) marks) h in
     some_and o (λ at. All (λ mark. mark ≤ at + 1) marks) at is (All-weaker (λ mark. mark ≤ at) (λ mark. mark ≤ at + 1) (λ mark l. omega arith) marks all)
 
--- one of two, the second exchanged
-pub either_iff : {N A B C : Type 0} → N ↔ (A ⊎ B) → B ↔ C → N ↔ (A ⊎ C)
-either_iff n e = (λ x. ⊎_elim (λ a. inl a) (λ b. inr (e.0 b)) (n.0 x), λ x. n.1 (⊎_elim (λ a. inl a) (λ c. inr (e.1 c)) x))
+-- one of two, the second of which is to be either a case of the first or another
+pub either_beyond : {N A B C D : Type 0} → N ↔ (A ⊎ B) → (D → A) → (D ⊎ B) ↔ C → N ↔ (A ⊎ C)
+either_beyond n own e = (λ x. ⊎_elim (λ a. inl a) (λ b. inr (e.0 (inr b))) (n.0 x), λ x. n.1 (⊎_elim (λ a. inl a) (λ c. ⊎_elim (λ d. inl (own d)) (λ b. inr b) (e.1 c)) x))
 
 -- the new edges are the old ones, and those to the keys whose positions were seen
 pub record Linked {K : Type 0} (cmp : K → K → Ordering) (keys : List K) (seen : List ℕ) (old new : List K) : Type 0 where

@@ -1,9 +1,9 @@
 -- SPDX-License-Identifier: Apache-2.0
 -- Steps of a search over positions.
-use Rattle.std.proofs.Common.{◌≡◌, ℕ, ◌+◌, ◌<◌, ◌≤◌, ◌⊎◌, ◌↔◌, Bool, cond, List, [], ◌∷◌, ◌++◌, length, get_or, set, not, eqb, All, Contains, refl, sym, ap, ◌∙◌, subst, inl, inr, ⊎_elim, arith, append_assoc, ◌-◌}
+use Rattle.std.proofs.Common.{◌≡◌, ℕ, ◌+◌, ◌<◌, ◌≤◌, ◌⊎◌, ◌↔◌, Bool, cond, List, [], ◌∷◌, ◌++◌, length, get_or, drop, set, not, eqb, All, Contains, refl, sym, ap, ◌∙◌, subst, inl, inr, ⊎_elim, arith, append_assoc, ◌-◌}
 use Rattle.std.proofs.lemmas.Bool.{cases_eq, eq-eqb, ne_eqb}
-use Rattle.std.proofs.lemmas.List.{append-nil, length-set, length_push, get_or-set_same, get_or-set_other, get_or_default, get_or_append_left, length-append}
-use Rattle.std.proofs.lemmas.List.Elements.{All-push, All-set, All-contains, Contains-get_or, Contains-append_left, Contains-push, Contains-push_cases}
+use Rattle.std.proofs.lemmas.List.{append-nil, length-set, length_push, get_or-set_same, get_or-set_other, get_or_default, get_or_append_left, length-append, drop-append-le, drop_all}
+use Rattle.std.proofs.lemmas.List.Elements.{All-push, All-set, All-contains, Contains-get_or, Contains-append_left, Contains-append_right, Contains-append_cases, Contains-push, Contains-push_cases}
 use Rattle.std.proofs.lemmas.List.Sorted.{Contains-permutation, IsPermutation-sym}
 use Rattle.std.specs.List.Sorted.{IsPermutation}
 use Rattle.std.proofs.lemmas.List.Sums.{sum_by-set}
@@ -92,39 +92,48 @@ Visited-new {stamp} {seen} {marks} {found} {marks'} {found'} j v below other = r
     from : (k : ℕ) → Contains found k ⊎ Contains (seen ++ j ∷ []) k → Contains (found' ++ j ∷ []) k
     from k h = ⊎_elim (λ x. Contains-append_left found' (j ∷ []) k ((v.holds k).1 (inl x))) (λ x. ⊎_elim (λ y. Contains-append_left found' (j ∷ []) k ((v.holds k).1 (inr y))) (λ y. subst (λ (p : ℕ). Contains (found' ++ j ∷ []) p) y (Contains-push found' j)) (Contains-push_cases seen j k x)) h
 
-All-from_contains : (P : ℕ → Type 0) (xs : List ℕ) → ((j : ℕ) → Contains xs j → P j) → All P xs
+pub All-from_contains : (P : ℕ → Type 0) (xs : List ℕ) → ((j : ℕ) → Contains xs j → P j) → All P xs
 All-from_contains P xs h = λ k d l. h (get_or xs k d) (Contains-get_or xs k d l)
 
--- a search from `start` that has visited the rows of the first `next` positions that it found
-pub record Searched (rows : List (List ℕ)) (stamp start next : ℕ) (marks found : List ℕ) : Type 0 where
+-- a search from `start` that has visited the rows of the first `next` positions that it found, the first of which are those of the row at `start`
+pub record Searched (rows : List (List ℕ)) (stamp start : ℕ) (first : List ℕ) (next : ℕ) (marks found : List ℕ) : Type 0 where
   pub told : Told stamp marks found
   pub as_long : length marks ≡ length rows
   pub next_within : next ≤ length found
+  pub direct : (j : ℕ) → Contains first j ↔ Leads rows start j
+  pub others : List ℕ
+  pub behind : found ≡ first ++ others
   pub reached : All (Reaches (Leads rows) start) found
-  pub begun : (j : ℕ) → Leads rows start j → Contains found j
   pub closed : (k j : ℕ) → k < next → Leads rows (get_or found k 0) j → Contains found j
 
 -- the row of the start was visited
-pub Searched-start : {rows : List (List ℕ)} {stamp start : ℕ} {marks marks' found' : List ℕ} → length marks ≡ length rows → Visited stamp (get_or rows start []) marks [] marks' found' → Searched rows stamp start 0 marks' found'
+pub Searched-start : {rows : List (List ℕ)} {stamp start : ℕ} {marks marks' found' : List ℕ} → length marks ≡ length rows → Visited stamp (get_or rows start []) marks [] marks' found' → Searched rows stamp start found' 0 marks' found'
 Searched-start {rows} {stamp} {start} {marks} {marks'} {found'} long v = record {
   told = v.told;
   as_long = v.as_long ∙ long;
   next_within = omega arith;
-  reached = All-from_contains (Reaches (Leads rows) start) found' (λ j h. ⊎_elim (λ x. absurd (not_in_nil j x)) (λ x. one x) ((v.holds j).0 h));
-  begun = λ j h. (v.holds j).1 (inr h);
+  direct = λ j. (only j, λ h. (v.holds j).1 (inr h));
+  others = [];
+  behind = sym (append-nil found');
+  reached = All-from_contains (Reaches (Leads rows) start) found' (λ j h. one (only j h));
   closed = λ k j l h. absurd (omega arith);
 }
+  where
+    only : (j : ℕ) → Contains found' j → Leads rows start j
+    only j h = ⊎_elim (λ x. absurd (not_in_nil j x)) (λ x. x) ((v.holds j).0 h)
 
 -- one row more
-pub Searched-next : {rows : List (List ℕ)} {stamp start next : ℕ} {marks found marks' found' : List ℕ} → Searched rows stamp start next marks found → next < length found → Visited stamp (get_or rows (get_or found next 0) []) marks found marks' found' → Searched rows stamp start (next + 1) marks' found'
-Searched-next {rows} {stamp} {start} {next} {marks} {found} {marks'} {found'} s l v = record {
+pub Searched-next : {rows : List (List ℕ)} {stamp start next : ℕ} {first marks found marks' found' : List ℕ} → Searched rows stamp start first next marks found → next < length found → Visited stamp (get_or rows (get_or found next 0) []) marks found marks' found' → Searched rows stamp start first (next + 1) marks' found'
+Searched-next {rows} {stamp} {start} {next} {first} {marks} {found} {marks'} {found'} s l v = record {
   told = v.told;
   as_long = v.as_long ∙ s.as_long;
   next_within = subst (λ f. next + 1 ≤ length f) (sym v.behind) (omega (arith, length-append found v.others));
+  direct = s.direct;
+  others = s.others ++ v.others;
+  behind = v.behind ∙ ap (λ f. f ++ v.others) s.behind ∙ append_assoc first s.others v.others;
   reached = All-from_contains (Reaches (Leads rows) start) found' (λ j h. ⊎_elim
       (λ x. All-contains (Reaches (Leads rows) start) found j s.reached x)
       (λ x. Reaches-push (s.reached next 0 l) x) ((v.holds j).0 h));
-  begun = λ j h. (v.holds j).1 (inl (s.begun j h));
   closed = λ k j below h. closed k j below (subst (λ n. Leads rows n j) (same k below) h);
 }
   where
@@ -142,13 +151,24 @@ pub Visited-fewer : {stamp : ℕ} {row marks found marks' found' : List ℕ} (ne
 Visited-fewer {found = found} next v l = omega (arith, v.count, ap length v.behind, length-append found v.others)
 
 -- after the last row
-pub Searched-end : {rows : List (List ℕ)} {stamp start next : ℕ} {marks found : List ℕ} → Searched rows stamp start next marks found → length found ≤ next → (j : ℕ) → Contains found j ↔ Reaches (Leads rows) start j
-Searched-end {rows} {stamp} {start} {next} {marks} {found} s all j =
-    (λ h. All-contains (Reaches (Leads rows) start) found j s.reached h, λ chain. Reaches-along (Contains found) on s.begun chain)
-  where
-    on : (b c : ℕ) → Contains found b → Leads rows b c → Contains found c
-    on b c (k, l, is) step = s.closed k c (omega arith) (subst (λ n. Leads rows n c) (sym is ∙ get_or_default found k b 0 l) step)
+module _ {rows : List (List ℕ)} {stamp start next : ℕ} {first marks found : List ℕ} (s : Searched rows stamp start first next marks found) (all : length found ≤ next) where
+  on : (b c : ℕ) → Contains found b → Leads rows b c → Contains found c
+  on b c (k, l, is) step = s.closed k c (omega arith) (subst (λ n. Leads rows n c) (sym is ∙ get_or_default found k b 0 l) step)
 
--- the same in another order
-pub Contains-moved : {found sorted : List ℕ} {R : Type 0} (j : ℕ) → IsPermutation found sorted → Contains found j ↔ R → Contains sorted j ↔ R
-Contains-moved {found} {sorted} j moved is = (λ h. is.0 (Contains-permutation sorted found j (IsPermutation-sym found sorted moved) h), λ r. Contains-permutation found sorted j moved (is.1 r))
+  begun : (j : ℕ) → Leads rows start j → Contains found j
+  begun j h = subst (λ f. Contains f j) (sym s.behind) (Contains-append_left first s.others j ((s.direct j).1 h))
+
+  -- what was found beyond the row of the start, in another order, and that row
+  pub Searched-end : (further : List ℕ) → IsPermutation s.others further → (j : ℕ) → (Leads rows start j ⊎ Contains further j) ↔ Reaches (Leads rows) start j
+  Searched-end further moved j = (to, λ chain. from (Contains-append_cases first s.others j (subst (λ f. Contains f j) s.behind (Reaches-along (Contains found) on begun chain))))
+    where
+      to : Leads rows start j ⊎ Contains further j → Reaches (Leads rows) start j
+      to h = ⊎_elim (λ x. one x) (λ x. All-contains (Reaches (Leads rows) start) found j s.reached
+          (subst (λ f. Contains f j) (sym s.behind) (Contains-append_right first s.others j (Contains-permutation further s.others j (IsPermutation-sym s.others further moved) x)))) h
+
+      from : Contains first j ⊎ Contains s.others j → Leads rows start j ⊎ Contains further j
+      from h = ⊎_elim (λ x. inl ((s.direct j).0 x)) (λ x. inr (Contains-permutation s.others further j moved x)) h
+
+-- what stands behind the first
+pub drop_first : (n : ℕ) (found first others : List ℕ) → n ≡ length first → found ≡ first ++ others → drop n found ≡ others
+drop_first n found first others is split = ap (drop n) split ∙ drop-append-le n first others (omega arith) ∙ ap (λ l. l ++ others) (drop_all n first (omega arith))

@@ -26,6 +26,10 @@ module _ {K : Type 0} (cmp : K → K → Ordering) where
   AddsBeside known old new others =
       (key : K) → (contains cmp known key || contains cmp new key) ≡ (contains cmp known key || (contains cmp old key || contains cmp others key))
 
+  -- the row of the first key leads to the second
+  abbrev pub LeadsTo : List K → List (List ℕ) → K → K → Type 0
+  LeadsTo keys rows a b = IsSomeAnd (place keys a) (λ i. IsSomeAnd (place keys b) (λ j. Leads rows i j))
+
   -- from the first key, a chain of rows leads to the second
   abbrev pub Chained : List K → List (List ℕ) → K → K → Type 0
   Chained keys rows a b = IsSomeAnd (place keys a) (λ i. IsSomeAnd (place keys b) (λ j. Reaches (Leads rows) i j))

@@ -7,11 +7,11 @@ ghost use Rattle.cedar_names.specs.of_data.Sets.{contains};
 ghost use Rattle.cedar_names.specs.of_text.Failures.{IfRefused};
 ghost use Rattle.cedar_closure.specs.Closure.{IsClosure, IsAcyclic, IsLeastOnCycle};
 ghost use Rattle.cedar_closure.specs.Marks.{LeadWithin};
-ghost use Rattle.cedar_closure.specs.Places.{AreKeysOf, Chained, place, rows_at};
+ghost use Rattle.cedar_closure.specs.Places.{AreKeysOf, Chained, LeadsTo, place, rows_at};
 ghost use Rattle.cedar_closure.specs.declared.tc_error.TcError.TheVariants.{HasCycle};
 
 use crate::key_graph::{keys_of_nodes, place_near, rows_of_nodes};
-use crate::reachable::reached_from;
+use crate::reachable::reached_beyond;
 use crate::tc_error::TcError;
 use crate::tc_node::{TcKey, TcNode};
 use cedar_names::{Failure, Items, Map, Mem, Out};
@@ -83,6 +83,10 @@ pub fn close_map<K: TcKey, V: TcNode<K>>(
     ensures refused { IfRefused result (λ error. IsTrue enforce_dag ×
         ((vertex : K) × (error ≡ HasCycle vertex) × IsLeastOnCycle K.cmp V.edges nodes vertex)) }
 {
+    // Without edges nothing is added, and no copy of a key is wanted.
+    if have_no_edges(&nodes) {
+        return Ok(nodes);
+    }
     let keys = keys_of_nodes(alloc, &nodes)?;
     let rows = rows_of_nodes(alloc, &nodes, keys.as_slice())?;
     let mut marks = vec![in alloc; 0usize; keys.len()]?;
@@ -95,6 +99,18 @@ pub fn close_map<K: TcKey, V: TcNode<K>>(
         enforce_dag,
     )?;
     Ok(closed)
+}
+
+/// Whether no edge leads from any of the nodes.
+fn have_no_edges<K: TcKey, V: TcNode<K>>(nodes: &Map<K, V>) -> bool
+    ensures { IsTrue result → All (λ entry. V.edges entry.1 ≡ []) nodes.now }
+{
+    for (_, node) in nodes.iter() {
+        if has_edge(node) {
+            return false;
+        }
+    }
+    true
 }
 
 /// Closes the edges of each node, in the order of their keys.
@@ -134,7 +150,7 @@ fn has_edge<K: TcKey, V: TcNode<K>>(node: &V) -> bool
 }
 
 /// Adds an edge to each key to which a chain of rows leads from `key`, and answers whether one leads back to it. From a
-/// node without edges none does, so that such a node takes no search.
+/// node without edges none does, so that such a node takes no search. The row of the key is of the edges of its node.
 fn close_any_edges<K: TcKey, V: TcNode<K>>(
     alloc: Global,
     keys: &[K],
@@ -148,6 +164,8 @@ fn close_any_edges<K: TcKey, V: TcNode<K>>(
     requires within { LeadWithin rows.now }
     requires one_each { (length rows.now ≡ length keys.now) × (length marks.old ≡ length rows.now) }
     requires ascends { IsStrictlySortedBy K.cmp (V.edges node.old) }
+    requires own_row { (to : K) → LeadsTo K.cmp keys.now rows.now key.now to
+        → IsTrue (contains K.cmp (V.edges node.old) to) }
     requires begun { (V.edges node.old ≡ []) → (to : K) → Chained K.cmp keys.now rows.now key.now to
         → ⊥ }
     requires earlier { IsSomeAnd (place K.cmp keys.now key.now)
@@ -171,7 +189,8 @@ fn close_any_edges<K: TcKey, V: TcNode<K>>(
     Ok(false)
 }
 
-/// Adds an edge to each key to which a chain of rows leads from `key`, and answers whether one leads back to it.
+/// Adds an edge to each key to which a chain of rows leads from `key`, and answers whether one leads back to it. The
+/// edges of the row at the key are there already.
 fn close_node<K: TcKey, V: TcNode<K>>(
     alloc: Global,
     keys: &[K],
@@ -185,6 +204,8 @@ fn close_node<K: TcKey, V: TcNode<K>>(
     requires within { LeadWithin rows.now }
     requires one_each { (length rows.now ≡ length keys.now) × (length marks.old ≡ length rows.now) }
     requires ascends { IsStrictlySortedBy K.cmp (V.edges node.old) }
+    requires own_row { (to : K) → LeadsTo K.cmp keys.now rows.now key.now to
+        → IsTrue (contains K.cmp (V.edges node.old) to) }
     requires earlier { IsSomeAnd (place K.cmp keys.now key.now)
         (λ at. All (λ mark. mark ≤ at) marks.old) }
     ensures leads { OnOk result ((to : K) → IsTrue (contains K.cmp (V.edges node.new) to)
@@ -201,9 +222,16 @@ fn close_node<K: TcKey, V: TcNode<K>>(
     let Some(at) = place_near(keys, last, key) else {
         unreachable!()
     };
-    let found = reached_from(alloc, rows, at, marks)?;
-    add_edges_to(alloc, keys, found.as_slice(), node)?;
-    Ok(found.contains(&at))
+    let further = reached_beyond(alloc, rows, at, marks)?;
+    add_edges_to(alloc, keys, further.as_slice(), node)?;
+    Ok(either_contains(rows[at].as_slice(), further.as_slice(), at))
+}
+
+/// Whether the position stands in one of the lists.
+fn either_contains(one: &[usize], other: &[usize], at: usize) -> bool
+    ensures { IsTrue result ↔ (Contains one.now at ⊎ Contains other.now at) }
+{
+    one.contains(&at) || other.contains(&at)
 }
 
 /// Adds an edge to each key whose position was found.

@@ -3,7 +3,7 @@ use Rattle.std.proofs.Common.{◌≡◌, ⊎_elim, ap, refl, sym, ◌∙◌, sub
 use Rattle.std.proofs.lemmas.Bool.{both_ways}
 use Rattle.cedar_closure.specs.Marks.{LeadWithin}
 use Rattle.cedar_closure.proofs.KeyChains.{length-rows, rows-within}
-use Rattle.cedar_closure.proofs.Closings.{Closing-start, Closing-ascends, Closing-begun, Closing-earlier, Closing-last, Closing-next, Closing-cycle, Closing-end}
+use Rattle.cedar_closure.proofs.Closings.{Closing-start, Closing-ascends, Closing-begun, Closing-own, Closing-earlier, Closing-last, Closing-next, Closing-cycle, Closing-end}
 use Rattle.cedar_closure.proofs.closure.close_nodes.Goals as goal
 
 pub loop-key-init : goal.loop-key-init
@@ -19,6 +19,7 @@ close_any_edges-requires g c =
       within = subst LeadWithin (sym c.requires.rows) (rows-within g.met.K.Ord.total g.V.TcNode.edges c.args.nodes keys c.requires.keys);
       one_each = (as_many, c.loop-key.invariant.as_long ∙ sym as_many);
       ascends = Closing-ascends g.met.K.Ord.total c.args.nodes keys c.requires.keys c.in-Some.key c.in-Some.node c.loop-key.invariant c.in-Some.ensures.steps;
+      own_row = Closing-own g.met.K.Ord.total c.args.nodes keys c.requires.keys c.in-Some.key c.in-Some.node c.into_entries-key-items.ensures.ordered c.loop-key.invariant c.in-Some.ensures.steps rows c.requires.rows;
       begun = Closing-begun g.met.K.Ord.total c.args.nodes keys c.requires.keys c.in-Some.key c.in-Some.node c.into_entries-key-items.ensures.ordered c.loop-key.invariant c.in-Some.ensures.steps rows c.requires.rows;
       earlier = Closing-earlier g.met.K.Ord.total c.args.nodes keys c.requires.keys c.in-Some.key c.in-Some.node c.loop-key.invariant c.in-Some.ensures.steps;
     }
