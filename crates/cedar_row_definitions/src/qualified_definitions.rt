@@ -5,7 +5,7 @@ use cedar_data::{Dup, Failure, Mem, NoMemory, Out};
 use cedar_declared::AllDefs;
 use cedar_definitions::{ActionFragment, ValidatorApplySpec, ValidatorSchemaFragment};
 use cedar_names::{EntityType, EntityUID, InternalName};
-use cedar_row_schema_lines::{Bracketed, types_told};
+use cedar_row_queries::{Bracketed, types_told};
 use cedar_row_trees::Lines;
 use cedar_schema_error::SchemaError;
 use std::alloc::Global;

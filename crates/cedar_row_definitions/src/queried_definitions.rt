@@ -6,7 +6,7 @@ use cedar_definitions::{EntityTypeFragment, ValidatorNamespaceDef, ValidatorSche
 use cedar_fragment::{Fragment, NamespaceDefinition, RawName};
 use cedar_names::{Extensions, InternalName, Name, UnreservedId};
 use cedar_namespace_definitions::FromNamespaceDefinition;
-use cedar_row_schema_lines::{Bracketed, CedarSchemaError, FragmentText, error_told};
+use cedar_row_queries::Bracketed;
 use cedar_row_trees::Lines;
 use cedar_schema_error::{ActionBehavior, SchemaError};
 use cedar_written::ConditionalName;
@@ -19,44 +19,17 @@ type Definition = ValidatorNamespaceDef<ConditionalName, ConditionalName>;
 /// The definitions of a schema over names that are not resolved.
 pub(crate) type Definitions = ValidatorSchemaFragment<ConditionalName, ConditionalName>;
 
-/// What the calls of the definitions tell that the input declares, and what they and the names that they declare say of
-/// each word; and to which entity types the actions apply, where each word is declared as a common type. Or what is said
-/// of why it is refused.
-pub fn definitions(alloc: Global, words: &[&str], input: &str) -> Mem<String> {
-    let made = definitions_of(alloc, input);
-    let told = made_told(alloc, words, &made);
-    drop(made);
-    told
-}
-
-fn made_told(
+/// What the calls of the definitions tell that the fragment declares, and what they and the names that they declare say
+/// of each word; and to which entity types the actions apply, where each word is declared as a common type. Or the error
+/// with which it is refused.
+pub fn definitions(
     alloc: Global,
     words: &[&str],
-    made: &Out<Definitions, CedarSchemaError>,
-) -> Mem<String> {
-    match made {
-        Ok(definitions) => definitions_told(alloc, words, definitions),
-        Err(Failure::Refused(error)) => error_told(alloc, error),
-        Err(Failure::NoMemory) => Err(NoMemory),
-    }
-}
-
-/// The definitions that a text declares, namespace by namespace.
-fn definitions_of(alloc: Global, input: &str) -> Out<Definitions, CedarSchemaError> {
-    let extensions = Extensions::all_available(alloc)?;
-    match Fragment::from_cedarschema_str(alloc, input, &extensions) {
-        Ok((fragment, _)) => as_schema_error(all_defined(alloc, &fragment, &extensions)),
-        Err(failure) => Err(failure),
-    }
-}
-
-/// The same, refused with an error of a schema or of its text.
-fn as_schema_error(made: Out<Definitions, SchemaError>) -> Out<Definitions, CedarSchemaError> {
-    match made {
-        Ok(definitions) => Ok(definitions),
-        Err(Failure::Refused(error)) => Err(Failure::Refused(CedarSchemaError::Schema(error))),
-        Err(Failure::NoMemory) => Err(Failure::NoMemory),
-    }
+    fragment: &Fragment<RawName>,
+    extensions: &Extensions,
+) -> Out<String, SchemaError> {
+    let definitions = all_defined(alloc, fragment, extensions)?;
+    Ok(definitions_told(alloc, words, &definitions)?)
 }
 
 fn all_defined(

@@ -5,7 +5,6 @@ ghost use Rattle.cedar_resolved.specs.Environments.{applies};
 use cedar_data::{Failure, Mem, NoMemory, Out};
 use cedar_names::{EntityType, EntityUID, NameFault};
 use cedar_resolved::{RequestEnv, ValidatorSchema};
-use cedar_row_schema_lines::{CedarSchemaError, error_told, schema_of};
 use cedar_row_trees::line_of;
 use std::alloc::Global;
 
@@ -39,29 +38,9 @@ fn all_principals_have(schema: &ValidatorSchema, name: &str) -> bool {
     true
 }
 
-/// `checked ATTRIBUTE` or `checked PRINCIPAL ACTION RESOURCE`: what a small checker says of the schema that the input
-/// denotes: whether each principal of each request has such an attribute, or whether it knows such requests; or what is
-/// said of why it is refused.
-pub fn checked(alloc: Global, words: &[&str], input: &str) -> Mem<String> {
-    let made = schema_of(alloc, input);
-    let told = made_told(alloc, words, &made);
-    drop(made);
-    told
-}
-
-fn made_told(
-    alloc: Global,
-    words: &[&str],
-    made: &Out<ValidatorSchema, CedarSchemaError>,
-) -> Mem<String> {
-    match made {
-        Ok(schema) => schema_told(alloc, words, schema),
-        Err(Failure::Refused(error)) => error_told(alloc, error),
-        Err(Failure::NoMemory) => Err(NoMemory),
-    }
-}
-
-fn schema_told(alloc: Global, words: &[&str], schema: &ValidatorSchema) -> Mem<String> {
+/// `ATTRIBUTE` or `PRINCIPAL ACTION RESOURCE`: what a small checker says of the schema: whether each principal of each
+/// request has such an attribute, or whether it knows such requests.
+pub fn checked(alloc: Global, words: &[&str], schema: &ValidatorSchema) -> Mem<String> {
     match words {
         [name] => line_of(alloc, answer_told(all_principals_have(schema, name))),
         [principal, action, resource] => match asked(alloc, schema, principal, action, resource) {

@@ -1,5 +1,5 @@
 // SPDX-License-Identifier: Apache-2.0
-use crate::queried_schemas::schema_told;
+use crate::queried_schemas::queries;
 use cedar_data::{Failure, Mem, NoMemory, Out, Text};
 use cedar_names::{EntityType, EntityUID, NameFault};
 use cedar_resolved::{ValidatorActionId, ValidatorEntityType, ValidatorSchema};
@@ -11,7 +11,7 @@ use std::alloc::Global;
 /// What the queries give of the schema that is made of entity types and actions, one a line of the input.
 pub fn made_queries(alloc: Global, words: &[&str], input: &str) -> Mem<String> {
     match schema_made(alloc, input) {
-        Ok(schema) => schema_told(alloc, words, &schema),
+        Ok(schema) => queries(alloc, words, &schema),
         Err(Failure::Refused(_)) => line_of(alloc, "no name"),
         Err(Failure::NoMemory) => Err(NoMemory),
     }

@@ -1,8 +1,8 @@
 // SPDX-License-Identifier: Apache-2.0
+use crate::bracketed::{Bracketed, types_told};
 use cedar_data::{Mem, SetIter};
 use cedar_names::{EntityType, EntityUID};
 use cedar_resolved::{ValidatorActionId, ValidatorSchema};
-use cedar_row_schema_lines::{Bracketed, types_told};
 use cedar_row_trees::Lines;
 use cedar_types::{OpenTag, Type, TypeView};
 use std::alloc::Global;

@@ -1,37 +1,15 @@
 // SPDX-License-Identifier: Apache-2.0
+use crate::bracketed::Bracketed;
 use crate::queried_actions::{add_action_lookup, add_actions};
 use crate::queried_types::{add_type_lookup, add_types};
-use cedar_data::{Dup, Failure, Mem, NoMemory, Out};
+use cedar_data::{Dup, Failure, Mem, NoMemory};
 use cedar_names::{EntityType, EntityUID};
 use cedar_resolved::{Entity, RequestEnv, ValidatorSchema};
-use cedar_row_schema_lines::{Bracketed, CedarSchemaError, error_told, schema_of};
 use cedar_row_trees::Lines;
 use std::alloc::Global;
 
-/// What the queries of the schema give that the input denotes, those by name for each of its names and for each word; or
-/// what is said of why it is refused.
-pub fn queries(alloc: Global, words: &[&str], input: &str) -> Mem<String> {
-    let made = schema_of(alloc, input);
-    let told = made_told(alloc, words, &made);
-    drop(made);
-    told
-}
-
-/// What the queries of a schema give, or what is said of why there is none.
-pub fn made_told(
-    alloc: Global,
-    words: &[&str],
-    made: &Out<ValidatorSchema, CedarSchemaError>,
-) -> Mem<String> {
-    match made {
-        Ok(schema) => schema_told(alloc, words, schema),
-        Err(Failure::Refused(error)) => error_told(alloc, error),
-        Err(Failure::NoMemory) => Err(NoMemory),
-    }
-}
-
-/// What the queries of a schema give.
-pub(crate) fn schema_told(alloc: Global, words: &[&str], schema: &ValidatorSchema) -> Mem<String> {
+/// What the queries of a schema give, those by name for each of its names and for each word.
+pub fn queries(alloc: Global, words: &[&str], schema: &ValidatorSchema) -> Mem<String> {
     let mut lines = Lines::new(alloc);
     add_types(&mut lines, schema)?;
     add_actions(&mut lines, schema)?;

@@ -1,8 +1,8 @@
 // SPDX-License-Identifier: Apache-2.0
+use crate::bracketed::Bracketed;
 use cedar_data::Mem;
 use cedar_names::EntityType;
 use cedar_resolved::{ValidatorEntityType, ValidatorEntityTypeKind, ValidatorSchema};
-use cedar_row_schema_lines::Bracketed;
 use cedar_row_trees::Lines;
 use cedar_types::OpenTag;
 use std::alloc::Global;

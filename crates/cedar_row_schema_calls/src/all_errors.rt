@@ -17,14 +17,14 @@ pub fn joined_errors(alloc: Global, input: &str) -> Mem<String> {
 
 /// What is said of these errors as one.
 fn joined_told(alloc: Global, errors: NonEmpty<SchemaError>) -> Mem<String> {
-    let error = joined(alloc, errors)?;
+    let error = boxed(alloc, SchemaError::join_nonempty(alloc, errors)?)?;
     error_told(alloc, error.get())
 }
 
-/// These errors as one. It stands on the heap, since so wide a value would have to be given up variant by variant.
-fn joined(alloc: Global, errors: NonEmpty<SchemaError>) -> Mem<Boxed<CedarSchemaError>> {
-    let joined = SchemaError::join_nonempty(alloc, errors)?;
-    Boxed::new(alloc, CedarSchemaError::from(joined))
+/// The error of a schema as one of its text. It stands on the heap, since so wide a value would have to be given up
+/// variant by variant.
+pub(crate) fn boxed(alloc: Global, error: SchemaError) -> Mem<Boxed<CedarSchemaError>> {
+    Boxed::new(alloc, CedarSchemaError::from(error))
 }
 
 /// The errors of the texts that are refused with an error of a schema.

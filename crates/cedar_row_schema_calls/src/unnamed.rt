@@ -1,9 +1,9 @@
 // SPDX-License-Identifier: Apache-2.0
+use crate::queried::queries_told;
 use cedar_data::{Dup, Failure, Mem, Out};
 use cedar_fragment::{Fragment, NamespaceDefinition, RawName};
 use cedar_names::Extensions;
 use cedar_resolved::ValidatorSchema;
-use cedar_row_queries::made_told;
 use cedar_row_schema_lines::{CedarSchemaError, FragmentText, FromFragment};
 use std::alloc::Global;
 
@@ -11,7 +11,7 @@ use std::alloc::Global;
 /// said of why it is refused.
 pub fn unnamed_queries(alloc: Global, words: &[&str], input: &str) -> Mem<String> {
     let made = schema_of_unnamed(alloc, input);
-    let told = made_told(alloc, words, &made);
+    let told = queries_told(alloc, words, &made);
     drop(made);
     told
 }

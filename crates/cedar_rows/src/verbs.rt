@@ -45,10 +45,6 @@ fn lines_of(alloc: Global, verb: &str, words: &[&str], input: &str) -> Lines {
     let lines = either(lines, cedar_row_queries::answer(alloc, verb, words, input));
     let lines = either(
         lines,
-        cedar_row_definitions::answer(alloc, verb, words, input),
-    );
-    let lines = either(
-        lines,
         cedar_row_schema_calls::answer(alloc, verb, words, input),
     );
     either(lines, cedar_row_verbs::answer(alloc, verb, words, input))
