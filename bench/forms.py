@@ -47,6 +47,21 @@ def print_counts(program):
             print_row(shown, n, f"{seconds:.3f}", f"{memory:.0f}", *peer)
 
 
+def print_records(program):
+    """Texts of little but attributes."""
+    print("\n`check`, attributes\n")
+    print_head("text", "bytes", "seconds (processor)", "peak MB", "us per attribute", *PEER_COLUMNS)
+    cases = [("2,000 entity types of five", texts.records(2000, 5), 10000),
+             ("200 entity types of 50", texts.records(200, 50), 10000),
+             ("an entity type of 20,000", texts.records(1, 20000), 20000),
+             ("300 entity types of 30 in one declaration", texts.one_record(300, 30), 9000)]
+    for name, text, attributes in cases:
+        with written(text) as path:
+            seconds, memory = best_of_three(program, path, (0,), ("check",))
+            peer = against_peer(seconds, path, (0,), ("check",))
+        print_row(name, len(text), f"{seconds:.3f}", f"{memory:.0f}", f"{1e6 * seconds / attributes:.2f}", *peer)
+
+
 def print_long(program):
     """As much as may be given."""
     print("\n`resolve`, 4 MiB\n")
@@ -132,6 +147,7 @@ def main():
     program = program_to_time()
     print_generated(program)
     print_counts(program)
+    print_records(program)
     print_long(program)
     print_json(program)
     print_conversion(program)

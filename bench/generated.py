@@ -154,6 +154,20 @@ def many_attributes(n):
     return "entity E { " + ", ".join(f"attribute{i}: Long" for i in range(n)) + " };"
 
 
+def records(types, attributes):
+    """Entity types of so many attributes each, a declaration for each."""
+    return "".join(f"entity E{i} {declared(attributes)};\n" for i in range(types))
+
+
+def one_record(types, attributes):
+    """The same in one declaration."""
+    return "entity " + ", ".join(f"E{i}" for i in range(types)) + f" {declared(attributes)};"
+
+
+def declared(attributes):
+    return "{ " + ", ".join(f"attribute{i}: String" for i in range(attributes)) + " }"
+
+
 def many_namespaces(n):
     return "".join(f"namespace N{i} {{ entity E {{ a: Long, e: E }}; }}\n" for i in range(n))
 
