@@ -7,8 +7,8 @@ use Rattle.cedar_types.specs.declared.ty.Attributes.{Attributes}
 use Rattle.cedar_types.specs.declared.ty.OpenTag.{OpenTag}
 use Rattle.cedar_types.specs.declared.ty.ResolvedType.{ResolvedType}
 use Rattle.cedar_types.specs.declared.ty.TypeNode.TheOpen as layers
-use Rattle.cedar_phases.specs.of_unfold.Resolved.{Resolved, Record}
-use Rattle.cedar_phases.specs.of_unfold.ResolvedViews.{is_open, layer_view, resolved, resolved_attributes, resolved_map}
+use Rattle.cedar_unfold.specs.Resolved.{Resolved, Record}
+use Rattle.cedar_unfold.specs.ResolvedViews.{is_open, layer_view, resolved, resolved_attributes, resolved_map}
 
 abbrev marked : Resolved → Bool → Bool × Resolved
 marked ty required = (required, ty)

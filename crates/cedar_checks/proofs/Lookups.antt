@@ -10,7 +10,7 @@ use Rattle.cedar_data.specs.Sets.{contains}
 use Rattle.cedar_names.specs.Names.{entity_cmp, entity_words}
 use Rattle.cedar_names.specs.Order.{words_cmp}
 use Rattle.cedar_names.specs.declared.name.EntityType.{EntityType}
-use Rattle.cedar_phases.specs.SchemaViews.{entity_in, entity_of, schema_in}
+use Rattle.cedar_checks.specs.SchemaViews.{entity_in, entity_of, schema_in}
 use Rattle.cedar_resolved.specs.Schemas.{type_at, types}
 use Rattle.cedar_resolved.specs.declared.entity_type.ValidatorEntityType.{ValidatorEntityType}
 use Rattle.cedar_resolved.specs.declared.schema.ValidatorSchema.{ValidatorSchema}

@@ -5,8 +5,8 @@ use Rattle.std.specs.BTreeMap.{is_at}
 use Rattle.std.specs.List.{list_any}
 use Rattle.std.specs.Map.{lookup}
 use Rattle.cedar_names.specs.Order.{words_cmp}
-use Rattle.cedar_phases.specs.of_schema_error.FullNames.{FullName}
-use Rattle.cedar_phases.specs.of_world.Schemas.{Schema, SchemaEntity}
+use Rattle.cedar_schema_error.specs.FullNames.{FullName}
+use Rattle.cedar_meaning.specs.Schemas.{Schema, SchemaEntity}
 
 -- the entity type of a name in a schema
 abbrev pub declared_type : Schema → FullName → Option SchemaEntity

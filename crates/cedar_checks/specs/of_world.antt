@@ -1,3 +1,3 @@
 -- SPDX-License-Identifier: Apache-2.0
--- What the crates above cite of `cedar_world`.
-pub use Rattle.cedar_phases.specs.of_world.Schemas
+-- What the crates above cite of `cedar_meaning`.
+pub use Rattle.cedar_meaning.specs.Schemas

@@ -4,7 +4,7 @@ use Rattle.std.proofs.Common.{◌≡◌, Some, None, ap, ◌∙◌}
 use Rattle.std.specs.Option.{option_map}
 use Rattle.cedar_names.specs.Names.{entity_words}
 use Rattle.cedar_names.specs.declared.name.EntityType.{EntityType}
-use Rattle.cedar_checks.specs.of_phases.SchemaViews.{entity_of, schema_in}
+use Rattle.cedar_checks.specs.SchemaViews.{entity_of, schema_in}
 use Rattle.cedar_resolved.specs.Schemas.{type_at}
 use Rattle.cedar_resolved.specs.declared.entity_type.ValidatorEntityType.{ValidatorEntityType}
 use Rattle.cedar_resolved.specs.declared.schema.ValidatorSchema.{ValidatorSchema}

@@ -7,7 +7,7 @@ use Rattle.cedar_data.specs.Answers.{and_then}
 use Rattle.cedar_data.specs.declared.memory.Failure.{Failure}
 use Rattle.cedar_names.specs.Names.{entity_words}
 use Rattle.cedar_names.specs.declared.name.EntityType.{EntityType}
-use Rattle.cedar_checks.specs.of_phases.SchemaViews.{entity_in, entity_of, schema_in}
+use Rattle.cedar_checks.specs.SchemaViews.{entity_in, entity_of, schema_in}
 use Rattle.cedar_resolved.specs.Schemas.{types}
 use Rattle.cedar_resolved.specs.declared.entity_type.ValidatorEntityType.{ValidatorEntityType}
 use Rattle.cedar_resolved.specs.declared.schema.ValidatorSchema.{ValidatorSchema}

@@ -1,6 +1,5 @@
 -- SPDX-License-Identifier: Apache-2.0
 pub mod of_world
-pub mod of_phases
 pub mod of_checks
 pub mod BreakChecks
 pub mod Changes

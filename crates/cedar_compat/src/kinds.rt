@@ -3,7 +3,7 @@ ghost use Rattle.std.specs.Prelude.{◌≡◌};
 ghost use Rattle.std.specs.Option.{option_copied, option_map};
 ghost use Rattle.cedar_text.specs.Lists.{elements};
 ghost use Rattle.cedar_text.specs.Words.{has_word};
-ghost use Rattle.cedar_checks.specs.of_phases.SchemaViews.{entity_of};
+ghost use Rattle.cedar_checks.specs.SchemaViews.{entity_of};
 ghost use Rattle.cedar_unfold.specs.ResolvedViews.{resolved};
 ghost use Rattle.cedar_compat.specs.BreakChecks.{choice_check, each, kind_check, tags_check};
 ghost use Rattle.cedar_compat.specs.Changes.{break_of};

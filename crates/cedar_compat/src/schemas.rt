@@ -2,7 +2,7 @@
 ghost use Rattle.std.specs.Prelude.{Some, IfOk};
 ghost use Rattle.cedar_data.specs.Answers.{IfRefused};
 ghost use Rattle.cedar_names.specs.Names.{entity_words};
-ghost use Rattle.cedar_checks.specs.of_phases.SchemaViews.{entity_of, schema_in};
+ghost use Rattle.cedar_checks.specs.SchemaViews.{entity_of, schema_in};
 ghost use Rattle.cedar_compat.specs.BreakChecks.{descendant_check, each, found_check, schema_check, type_stays_check};
 ghost use Rattle.cedar_compat.specs.Changes.{break_of, type_break};
 ghost use Rattle.cedar_compat.specs.Checks.{Tells};

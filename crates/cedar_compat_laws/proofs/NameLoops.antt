@@ -11,7 +11,7 @@ use Rattle.std.specs.declared.cmp.Ordering.TheVariants.{Less}
 use Rattle.cedar_data.specs.Firsts.{AllPass}
 use Rattle.cedar_data.specs.Maps.{IsSortedMap}
 use Rattle.cedar_names.specs.declared.name.EntityType.{EntityType}
-use Rattle.cedar_compat.specs.of_phases.SchemaViews.{entity_in, entity_of, schema_in}
+use Rattle.cedar_compat.specs.of_checks.SchemaViews.{entity_in, entity_of, schema_in}
 use Rattle.cedar_resolved.specs.Schemas.{types}
 use Rattle.cedar_resolved.specs.declared.entity_type.ValidatorEntityType.{ValidatorEntityType}
 use Rattle.cedar_resolved.specs.declared.schema.ValidatorSchema.{ValidatorSchema}

@@ -1,6 +1,6 @@
 // SPDX-License-Identifier: Apache-2.0
 ghost use Rattle.std.specs.Option.{option_copied, option_map};
-ghost use Rattle.cedar_compat.specs.of_phases.SchemaViews.{entity_of, schema_in};
+ghost use Rattle.cedar_compat.specs.of_checks.SchemaViews.{entity_of, schema_in};
 ghost use Rattle.cedar_types.specs.Types.{entries};
 ghost use Rattle.cedar_unfold.specs.ResolvedViews.{resolved, resolved_map};
 ghost use Rattle.cedar_compat_laws.specs.NamesDiffer.{NamesDiffer, AllNamesDiffer, TypeNamesDiffer, KindNamesDiffer, TagNamesDiffer};

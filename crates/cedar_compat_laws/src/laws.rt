@@ -4,7 +4,7 @@ ghost use Rattle.serde_json.specs.Data.{Data};
 ghost use Rattle.cedar_compat.specs.Compatible.{Compatible};
 ghost use Rattle.cedar_compat_laws.specs.NamesDiffer.{AllNamesDiffer};
 ghost use Rattle.cedar_conform.specs.Entities.{AreEntities};
-ghost use Rattle.cedar_compat.specs.of_phases.SchemaViews.{schema_in};
+ghost use Rattle.cedar_compat.specs.of_checks.SchemaViews.{schema_in};
 ghost use Rattle.cedar_world.specs.Schemas.{Schema};
 
 use crate::differing::names_differ;

@@ -1,6 +1,6 @@
 -- SPDX-License-Identifier: Apache-2.0
 pub mod of_world
-pub mod of_phases
+pub mod of_checks
 pub mod Checks
 pub mod Entities
 pub mod EntityChecks

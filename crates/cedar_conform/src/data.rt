@@ -3,7 +3,7 @@ ghost use Rattle.std.specs.Prelude.{◌≡◌, codes};
 ghost use Rattle.std.specs.Option.{option_copied, option_map};
 ghost use Rattle.serde_json.specs.View.{view, items_view};
 ghost use Rattle.cedar_names.specs.Names.{entity_words};
-ghost use Rattle.cedar_checks.specs.of_phases.SchemaViews.{entity_of, schema_in};
+ghost use Rattle.cedar_checks.specs.SchemaViews.{entity_of, schema_in};
 ghost use Rattle.cedar_resolved.specs.Schemas.{type_attributes};
 ghost use Rattle.cedar_types.specs.Types.{entries};
 ghost use Rattle.cedar_unfold.specs.ResolvedViews.{resolved, resolved_map};

@@ -3,7 +3,7 @@ ghost use Rattle.std.specs.Prelude.{◌≡◌, codes, map, IfOk};
 ghost use Rattle.serde_json.specs.View.{view, items_view};
 ghost use Rattle.cedar_text.specs.Failures.{IfRefused};
 ghost use Rattle.cedar_schema_error.specs.FullNames.{uid_in};
-ghost use Rattle.cedar_checks.specs.of_phases.SchemaViews.{schema_in};
+ghost use Rattle.cedar_checks.specs.SchemaViews.{schema_in};
 ghost use Rattle.cedar_conform.specs.Checks.{Tells, needs, passed};
 ghost use Rattle.cedar_conform.specs.Entities.{AreEntities};
 ghost use Rattle.cedar_conform.specs.EntityChecks.{each_entity, entities_check, entity_of, items_check, known_reference_check};

@@ -9,7 +9,7 @@ ghost use Rattle.cedar_text.specs.NormalNames.{name_fault};
 ghost use Rattle.cedar_names.specs.EntityUids.{place_of};
 ghost use Rattle.cedar_names.specs.Names.{entity_words};
 ghost use Rattle.cedar_schema_error.specs.FullNames.{Uid, uid_in};
-ghost use Rattle.cedar_checks.specs.of_phases.SchemaViews.{entity_of, schema_in};
+ghost use Rattle.cedar_checks.specs.SchemaViews.{entity_of, schema_in};
 ghost use Rattle.cedar_conform.specs.Checks.{IsMissing, Tells, needs, passed};
 ghost use Rattle.cedar_conform.specs.References.{IsReference, may_have};
 ghost use Rattle.cedar_conform.specs.ValueChecks.{choice_check, entity_check, known_check, name_check, named, only_entity, plain_check, reference_check, same_type, text_check};

@@ -6,7 +6,7 @@ ghost use Rattle.cedar_text.specs.Failures.{IfRefused};
 ghost use Rattle.cedar_names.specs.Names.{name_words};
 ghost use Rattle.cedar_types.specs.Types.{entries};
 ghost use Rattle.cedar_unfold.specs.ResolvedViews.{resolved, resolved_map};
-ghost use Rattle.cedar_checks.specs.of_phases.SchemaViews.{schema_in};
+ghost use Rattle.cedar_checks.specs.SchemaViews.{schema_in};
 ghost use Rattle.cedar_conform.specs.Checks.{Tells, each_item, each_member, each_value, here, in_array, passed};
 ghost use Rattle.cedar_conform.specs.Fits as fits;
 ghost use Rattle.cedar_conform.specs.Fits.{Fits};

@@ -14,7 +14,7 @@ use Rattle.cedar_names.specs.declared.internal_name.InternalName.{InternalName}
 use Rattle.cedar_names.specs.declared.name.EntityType.{EntityType}
 use Rattle.cedar_phases.specs.Holding.{HoldsUnfolded}
 use Rattle.cedar_phases.specs.NotDeclared.{AreNotDeclared, other_targets}
-use Rattle.cedar_phases.specs.SchemaViews.{IsNamed, action_in, schema_in, types_of}
+use Rattle.cedar_checks.specs.SchemaViews.{IsNamed, action_in, schema_in, types_of}
 use Rattle.cedar_phases.proofs.Agreeing.{same_action_target}
 use Rattle.cedar_phases.proofs.Composing.{least_there}
 use Rattle.cedar_phases.proofs.Descending.{action_descends_back, action_descends_there}

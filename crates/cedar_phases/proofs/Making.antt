@@ -19,7 +19,7 @@ use Rattle.cedar_names.specs.declared.entity_uid.EntityUID.{EntityUID}
 use Rattle.cedar_names.specs.declared.extensions.Extensions.{Extensions}
 use Rattle.cedar_names.specs.declared.name.EntityType.{EntityType}
 use Rattle.cedar_phases.specs.Holding.{Definition, Holds}
-use Rattle.cedar_phases.specs.SchemaViews.{action_in, entity_in, kind_of}
+use Rattle.cedar_checks.specs.SchemaViews.{action_in, entity_in, kind_of}
 use Rattle.cedar_phases.proofs.Agreeing.{same_action_target, same_target}
 use Rattle.cedar_phases.proofs.Chained.{set_there, zip_through}
 use Rattle.cedar_phases.proofs.Contained.{and_both, and_left, of_contained}

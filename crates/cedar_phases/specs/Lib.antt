@@ -7,6 +7,6 @@ pub mod of_resolved
 pub mod of_qualified
 pub mod of_duplicates
 pub use Rattle.cedar_sound.specs.Sound
+pub use Rattle.cedar_checks.specs.SchemaViews
 pub mod Holding
-pub mod SchemaViews
 pub mod NotDeclared

@@ -3,7 +3,7 @@ ghost use Rattle.std.specs.Prelude.{◌++◌, IfOk, List};
 ghost use Rattle.cedar_data.specs.Answers.{IfRefused};
 ghost use Rattle.cedar_declared.specs.of_definitions.Structures.{definitions_of};
 ghost use Rattle.cedar_phases.specs.Holding.{AllPassed, AreTables, Definition, Holds, OneRefuses, early_phases, later_phases, world_of};
-ghost use Rattle.cedar_phases.specs.SchemaViews.{IsNamed, schema_in};
+ghost use Rattle.cedar_checks.specs.SchemaViews.{IsNamed, schema_in};
 ghost use Rattle.cedar_schema_error.specs.Told.{told};
 ghost use Rattle.cedar_sound.specs.Sound.{Cause, Passes, References, Sound};
 ghost use Rattle.cedar_qualified.specs.of_world.Denotes.{Denotes};

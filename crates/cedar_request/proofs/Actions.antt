@@ -10,7 +10,7 @@ use Rattle.cedar_data.specs.Sets.{contains}
 use Rattle.cedar_names.specs.Names.{entity_cmp, entity_words}
 use Rattle.cedar_names.specs.declared.entity_uid.EntityUID.{EntityUID}
 use Rattle.cedar_names.specs.declared.name.EntityType.{EntityType}
-use Rattle.cedar_conform.specs.of_phases.SchemaViews.{action_in, action_of, schema_in}
+use Rattle.cedar_conform.specs.of_checks.SchemaViews.{action_in, action_of, schema_in}
 use Rattle.cedar_resolved.specs.Schemas.{action_at, action_types, uid_cmp}
 use Rattle.cedar_resolved.specs.declared.action.ValidatorActionId.{ValidatorActionId}
 use Rattle.cedar_resolved.specs.declared.schema.ValidatorSchema.{ValidatorSchema}

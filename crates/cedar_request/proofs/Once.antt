@@ -8,7 +8,7 @@ use Rattle.std.specs.List.{count_by, flat_map}
 use Rattle.cedar_names.specs.Names.{entity_cmp, entity_words}
 use Rattle.cedar_names.specs.declared.entity_uid.EntityUID.{EntityUID}
 use Rattle.cedar_names.specs.declared.name.EntityType.{EntityType}
-use Rattle.cedar_conform.specs.of_phases.SchemaViews.{action_in, action_of, schema_in}
+use Rattle.cedar_conform.specs.of_checks.SchemaViews.{action_in, action_of, schema_in}
 use Rattle.cedar_resolved.specs.Environments as resolved
 use Rattle.cedar_resolved.specs.Environments.{applies, applies_to, environment_of, environments_of_all, is_of, one_if, with_principals, with_resources}
 use Rattle.cedar_resolved.specs.Queries.{passes}

@@ -6,7 +6,7 @@ use Rattle.std.specs.declared.result.Result.{Result}
 use Rattle.cedar_data.specs.Answers.{IfRefused}
 use Rattle.cedar_data.specs.declared.memory.Failure.{Failure}
 use Rattle.cedar_data.specs.declared.memory.Failure.TheVariants.{Refused, NoMemory}
-use Rattle.cedar_conform.specs.of_phases.SchemaViews.{schema_in}
+use Rattle.cedar_conform.specs.of_checks.SchemaViews.{schema_in}
 use Rattle.cedar_resolved.specs.declared.schema.ValidatorSchema.{ValidatorSchema}
 use Rattle.serde_json.specs.Data.{Data}
 use Rattle.cedar_request.proofs.Once.{EachOnce, ordered}

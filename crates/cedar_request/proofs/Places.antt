@@ -7,7 +7,7 @@ use Rattle.cedar_names.specs.Names.{entity_words}
 use Rattle.cedar_names.specs.Order.{words_cmp}
 use Rattle.cedar_names.specs.declared.entity_uid.EntityUID.{EntityUID}
 use Rattle.cedar_names.specs.declared.name.EntityType.{EntityType}
-use Rattle.cedar_conform.specs.of_phases.SchemaViews.{action_in, action_of}
+use Rattle.cedar_conform.specs.of_checks.SchemaViews.{action_in, action_of}
 use Rattle.cedar_resolved.specs.declared.action.ValidatorActionId.{ValidatorActionId}
 use Rattle.cedar_schema_error.specs.FullNames.{FullName, Uid, uid_cmp, uid_in}
 use Rattle.cedar_request.specs.Numbers.{place_among, size_before, size_of}

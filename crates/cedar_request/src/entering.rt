@@ -1,7 +1,7 @@
 // SPDX-License-Identifier: Apache-2.0
 ghost use Rattle.std.specs.Prelude.{◌≡◌, Ok};
 ghost use Rattle.cedar_written.specs.Answers.{and_then};
-ghost use Rattle.cedar_conform.specs.of_phases.SchemaViews.{action_of, schema_in};
+ghost use Rattle.cedar_conform.specs.of_checks.SchemaViews.{action_of, schema_in};
 ghost use Rattle.cedar_schema_error.specs.FullNames.{uid_in};
 ghost use Rattle.cedar_names.specs.Names.{entity_words};
 ghost use Rattle.cedar_conform.specs.Checks.{Tells, passed};

@@ -3,7 +3,7 @@ ghost use Rattle.std.specs.Prelude.{◌≡◌, map};
 ghost use Rattle.cedar_names.specs.Names.{entity_words};
 ghost use Rattle.cedar_resolved.specs.Schemas.{action_types};
 ghost use Rattle.cedar_schema_error.specs.FullNames.{uid_in};
-ghost use Rattle.cedar_conform.specs.of_phases.SchemaViews.{action_in, action_of, schema_in};
+ghost use Rattle.cedar_conform.specs.of_checks.SchemaViews.{action_in, action_of, schema_in};
 ghost use Rattle.cedar_request.specs.Numbers as numbers;
 ghost use Rattle.cedar_request.specs.Numbers.{number, place_in, size_before, size_of};
 ghost use Rattle.cedar_request.specs.Requests.{in_64_bits};

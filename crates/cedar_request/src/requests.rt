@@ -2,7 +2,7 @@
 ghost use Rattle.std.specs.Prelude.{◌≡◌, ℕ, List, Ok, IfOk};
 ghost use Rattle.serde_json.specs.View.{view, items_view};
 ghost use Rattle.cedar_text.specs.Failures.{IfRefused};
-ghost use Rattle.cedar_conform.specs.of_phases.SchemaViews.{schema_in};
+ghost use Rattle.cedar_conform.specs.of_checks.SchemaViews.{schema_in};
 ghost use Rattle.cedar_conform.specs.Checks.{Tells, in_array};
 ghost use Rattle.cedar_request.specs.RequestChecks.{Says, each_request, of_value, request_check, requests_check};
 ghost use Rattle.cedar_request.specs.Requests.{AreRequests};

@@ -1,6 +1,6 @@
 -- SPDX-License-Identifier: Apache-2.0
 use Rattle.cedar_names.specs.Names.{entity_words}
-use Rattle.cedar_checks.specs.of_phases.SchemaViews.{entity_of}
+use Rattle.cedar_checks.specs.SchemaViews.{entity_of}
 use Rattle.cedar_compat.specs.BreakChecks.{descendant_check}
 use Rattle.cedar_compat.proofs.Each.{PassesSeen}
 use Rattle.cedar_compat.proofs.schemas.check_descendants.Given as goal

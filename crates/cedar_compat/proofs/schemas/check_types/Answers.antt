@@ -1,7 +1,7 @@
 -- SPDX-License-Identifier: Apache-2.0
 use Rattle.std.proofs.Common.{Ok, Err, rules}
 use Rattle.cedar_names.specs.Names.{entity_words}
-use Rattle.cedar_checks.specs.of_phases.SchemaViews.{entity_of, schema_in}
+use Rattle.cedar_checks.specs.SchemaViews.{entity_of, schema_in}
 use Rattle.cedar_compat.specs.BreakChecks.{type_stays_check}
 use Rattle.cedar_compat.proofs.Told.{Tells-of_type}
 use Rattle.cedar_compat.proofs.TypeLoops.{PassesTypes-end, PassesTypes-next, PassesTypes-refused}

@@ -1,6 +1,6 @@
 -- SPDX-License-Identifier: Apache-2.0
 use Rattle.std.specs.Iterator.Adapters.{zip_first, zip_second}
-use Rattle.cedar_checks.specs.of_phases.SchemaViews.{schema_in}
+use Rattle.cedar_checks.specs.SchemaViews.{schema_in}
 use Rattle.cedar_compat.proofs.TypeLoops.{PassesTypes}
 use Rattle.cedar_compat.proofs.schemas.check_types.Given as goal
 

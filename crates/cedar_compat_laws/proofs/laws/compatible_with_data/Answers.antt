@@ -1,5 +1,5 @@
 -- SPDX-License-Identifier: Apache-2.0
-use Rattle.cedar_compat.specs.of_phases.SchemaViews.{schema_in}
+use Rattle.cedar_compat.specs.of_checks.SchemaViews.{schema_in}
 use Rattle.cedar_compat_laws.proofs.EntitiesStay.{accepted-stay}
 use Rattle.cedar_compat_laws.proofs.laws.compatible_with_data.Goals as goal
 

@@ -1,7 +1,7 @@
 -- SPDX-License-Identifier: Apache-2.0
 use Rattle.std.proofs.Common.{◌≡◌, drop}
 use Rattle.cedar_names.specs.Names.{entity_words}
-use Rattle.cedar_checks.specs.of_phases.SchemaViews.{schema_in}
+use Rattle.cedar_checks.specs.SchemaViews.{schema_in}
 use Rattle.cedar_conform.specs.EntityChecks.{parent_check}
 use Rattle.cedar_conform.proofs.Items.{PassesItems}
 use Rattle.cedar_conform.proofs.data.check_each_parent.Given as goal

@@ -1,7 +1,7 @@
 -- SPDX-License-Identifier: Apache-2.0
 use Rattle.std.proofs.Common.{◌≡◌, ◌∷◌, ◌+◌, drop, arith, refl, ap}
 use Rattle.std.proofs.lemmas.List.{drop_more}
-use Rattle.cedar_checks.specs.of_phases.SchemaViews.{schema_in}
+use Rattle.cedar_checks.specs.SchemaViews.{schema_in}
 use Rattle.cedar_conform.proofs.EntityLoops.{ReadsEntities-next}
 use Rattle.cedar_conform.proofs.entities.read_entities.Goals as goal
 

@@ -1,6 +1,6 @@
 -- SPDX-License-Identifier: Apache-2.0
 use Rattle.std.proofs.Common.{◌≡◌, drop}
-use Rattle.cedar_checks.specs.of_phases.SchemaViews.{schema_in}
+use Rattle.cedar_checks.specs.SchemaViews.{schema_in}
 use Rattle.cedar_conform.proofs.EntityLoops.{ReadsEntities}
 use Rattle.cedar_conform.proofs.entities.read_entities.Given as goal
 

@@ -1,7 +1,7 @@
 -- SPDX-License-Identifier: Apache-2.0
 use Rattle.std.proofs.Common.{ap, rules}
 use Rattle.serde_json.specs.View.{view}
-use Rattle.cedar_checks.specs.of_phases.SchemaViews.{schema_in}
+use Rattle.cedar_checks.specs.SchemaViews.{schema_in}
 use Rattle.cedar_conform.specs.Checks.{passed}
 use Rattle.cedar_conform.specs.ValueChecks.{value_check}
 use Rattle.cedar_checks.proofs.Layers.{resolved-rows}

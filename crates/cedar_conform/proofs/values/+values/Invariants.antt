@@ -6,7 +6,7 @@ use Rattle.cedar_types.specs.declared.ty.AttributeType.{size-AttributeType}
 use Rattle.cedar_types.specs.declared.ty.Attributes.{size-Attributes}
 use Rattle.cedar_types.specs.declared.ty.ResolvedType.{size-ResolvedType}
 use Rattle.cedar_unfold.specs.ResolvedViews.{resolved}
-use Rattle.cedar_checks.specs.of_phases.SchemaViews.{schema_in}
+use Rattle.cedar_checks.specs.SchemaViews.{schema_in}
 use Rattle.cedar_conform.specs.ValueChecks.{value_check}
 use Rattle.cedar_unfold.proofs.Depths.{IsDeeper}
 use Rattle.cedar_conform.proofs.Items.{PassesItems}

@@ -1,6 +1,6 @@
 -- SPDX-License-Identifier: Apache-2.0
 use Rattle.cedar_unfold.specs.ResolvedViews.{resolved}
-use Rattle.cedar_checks.specs.of_phases.SchemaViews.{schema_in}
+use Rattle.cedar_checks.specs.SchemaViews.{schema_in}
 use Rattle.cedar_conform.specs.Checks.{under}
 use Rattle.cedar_conform.specs.ValueChecks.{value_check}
 use Rattle.cedar_conform.proofs.Members.{PassesMembers}

@@ -10,7 +10,7 @@ use Rattle.cedar_declared.specs.Held.{names_of}
 use Rattle.cedar_hierarchy.specs.Made.{MakesEntity}
 use Rattle.cedar_hierarchy.specs.Outlined.{ActionOutlineDescends}
 use Rattle.cedar_phases.specs.Holding.{AllPassed, HoldsUnfolded, OneRefuses, last_phases}
-use Rattle.cedar_phases.specs.SchemaViews.{IsNamed, schema_in, types_of}
+use Rattle.cedar_checks.specs.SchemaViews.{IsNamed, schema_in, types_of}
 use Rattle.cedar_phases.proofs.Assembled.{all_are_declared, cycle_told, denoted, named, no_cycles, undeclared_told}
 use Rattle.cedar_phases.proofs.Carried.{carried_text, passed, passed_both, refused}
 use Rattle.cedar_phases.proofs.assembling.assemble.Goals as goal

@@ -2,7 +2,7 @@
 use Rattle.std.proofs.Common.{List}
 use Rattle.cedar_declared.specs.of_definitions.Structures.{definitions_of}
 use Rattle.cedar_phases.specs.Holding.{AllPassed, AreTables, Definition, Holds, OneRefuses, later_phases}
-use Rattle.cedar_phases.specs.SchemaViews.{schema_in}
+use Rattle.cedar_checks.specs.SchemaViews.{schema_in}
 use Rattle.cedar_phases.proofs.Carried.{passed, refused}
 use Rattle.cedar_schema_error.specs.Told.{told}
 use Rattle.cedar_sound.specs.Sound.{Passes, References}

@@ -1,7 +1,7 @@
 -- SPDX-License-Identifier: Apache-2.0
 use Rattle.std.proofs.Common.{List, inl, inr}
 use Rattle.cedar_phases.specs.Holding.{AllPassed, AreTables, Definition, Holds, HoldsTypes, HoldsUnfolded, OneRefuses, last_phases, later_phases}
-use Rattle.cedar_phases.specs.SchemaViews.{schema_in}
+use Rattle.cedar_checks.specs.SchemaViews.{schema_in}
 use Rattle.cedar_phases.proofs.Carried.{carried, passed, refused}
 use Rattle.cedar_phases.specs.declared.unfolding.UnfoldedTypes.{UnfoldedTypes}
 use Rattle.cedar_resolved.specs.declared.schema.ValidatorSchema.{ValidatorSchema}

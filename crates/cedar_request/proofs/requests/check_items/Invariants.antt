@@ -1,6 +1,6 @@
 -- SPDX-License-Identifier: Apache-2.0
 use Rattle.std.proofs.Common.{◌≡◌, drop}
-use Rattle.cedar_conform.specs.of_phases.SchemaViews.{schema_in}
+use Rattle.cedar_conform.specs.of_checks.SchemaViews.{schema_in}
 use Rattle.cedar_request.proofs.RequestLoops.{FindsNumbers}
 use Rattle.cedar_request.proofs.requests.check_items.Given as goal
 

@@ -18,7 +18,7 @@ use Rattle.cedar_text.specs.Lists.{elements}
 use Rattle.cedar_types.specs.Types.{entries}
 use Rattle.cedar_types.specs.declared.ty.Attributes.{Attributes}
 use Rattle.cedar_unfold.specs.ResolvedViews.{is_open, resolved, resolved_map}
-use Rattle.cedar_qualified.specs.of_world.Schemas.{EntityKind, EnumeratedKind, Schema, SchemaAction, SchemaEntity, StandardKind}
+use Rattle.cedar_meaning.specs.Schemas.{EntityKind, EnumeratedKind, Schema, SchemaAction, SchemaEntity, StandardKind}
 
 -- the kind of an entity type with these attributes
 abbrev pub kind_of : Attributes → ValidatorEntityTypeKind → EntityKind
