@@ -8,7 +8,7 @@ use Rattle.cedar_closure.specs.Closure as closure
 use Rattle.cedar_data.specs.Firsts.{IsLeast}
 use Rattle.cedar_data.specs.Maps.{IsSortedMap}
 use Rattle.cedar_data.specs.Sets.{contains, IsSetOf}
-use Rattle.cedar_tables.specs.of_declared.Names.{Names, action_target, target}
+use Rattle.cedar_outlines.specs.of_declared.Names.{Names, action_target, target}
 use Rattle.cedar_hierarchy.specs.Children.{has_parent, is_child}
 use Rattle.cedar_hierarchy.specs.Made.{MakesAction, MakesEntity}
 use Rattle.cedar_hierarchy.specs.Nodes.{IsActionNode, IsEntityNode}
@@ -29,9 +29,9 @@ use Rattle.cedar_resolved.specs.declared.action.ValidatorActionId.{ValidatorActi
 use Rattle.cedar_resolved.specs.declared.entity_type.ValidatorEntityType.{ValidatorEntityType}
 use Rattle.cedar_schema_error.specs.FullNames.{Uid, uid_cmp, uid_in}
 use Rattle.cedar_schema_error.specs.NameReferences.{action_reference_of, reference_of}
-use Rattle.cedar_tables.specs.Outlines.{ActionParts, EntityParts, action_outline_in, entity_outline_in, parts_of_action, parts_of_entity}
-use Rattle.cedar_tables.specs.declared.outlines.ActionOutline.{ActionOutline}
-use Rattle.cedar_tables.specs.declared.outlines.EntityOutline.{EntityOutline}
+use Rattle.cedar_outlines.specs.Outlines.{ActionParts, EntityParts, action_outline_in, entity_outline_in, parts_of_action, parts_of_entity}
+use Rattle.cedar_outlines.specs.declared.outlines.ActionOutline.{ActionOutline}
+use Rattle.cedar_outlines.specs.declared.outlines.EntityOutline.{EntityOutline}
 
 module _ (names : Names) (uses : Uses) where
   pub entity_types_made : (outlines : List (EntityType × EntityOutline)) (children : List (EntityType × List EntityType)) (nodes closed : List (EntityType × ValidatorEntityType))

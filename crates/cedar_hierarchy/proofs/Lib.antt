@@ -1,5 +1,5 @@
 -- SPDX-License-Identifier: Apache-2.0
-pub mod of_tables
+pub mod of_outlines
 pub mod Aligned
 pub mod Answering
 pub mod ChildrenLemmas

@@ -9,9 +9,9 @@ use Rattle.std.specs.List.Sorted.{IsStrictlySortedBy}
 use Rattle.std.specs.Option.{option_map_or}
 use Rattle.std.specs.declared.cmp.Ordering.{Ordering}
 use Rattle.cedar_data.specs.Sets.{contains, Adds}
-use Rattle.cedar_tables.specs.of_declared.Names.{Names, action_target, is_action}
-use Rattle.cedar_tables.specs.of_declared.Targets.{action_at, found}
-use Rattle.cedar_tables.proofs.of_declared.FoundTargets.{type_found}
+use Rattle.cedar_outlines.specs.of_declared.Names.{Names, action_target, is_action}
+use Rattle.cedar_outlines.specs.of_declared.Targets.{action_at, found}
+use Rattle.cedar_outlines.proofs.of_declared.FoundTargets.{type_found}
 use Rattle.cedar_fragment.specs.ActionUids.{over_conditional, type_in}
 use Rattle.cedar_fragment.specs.declared.action_uid.ActionEntityUID.{ActionEntityUID}
 use Rattle.cedar_hierarchy.specs.Targets.{is_here, is_type_meant}

@@ -5,9 +5,9 @@ use Rattle.std.specs.List.{list_any}
 use Rattle.std.specs.List.Sorted.{IsStrictlySortedBy}
 use Rattle.cedar_data.specs.Firsts.{SomePasses}
 use Rattle.cedar_data.specs.Sets.{contains}
-use Rattle.cedar_tables.specs.of_declared.Names.{Names, target, targets}
-use Rattle.cedar_tables.specs.of_declared.Targets.{found}
-use Rattle.cedar_tables.proofs.of_declared.FoundTargets.{type_found}
+use Rattle.cedar_outlines.specs.of_declared.Names.{Names, target, targets}
+use Rattle.cedar_outlines.specs.of_declared.Targets.{found}
+use Rattle.cedar_outlines.proofs.of_declared.FoundTargets.{type_found}
 use Rattle.cedar_hierarchy.specs.Targets.{AreMeant, is_type_meant}
 use Rattle.cedar_hierarchy.proofs.Meant.{any_meant, unreserved}
 use Rattle.cedar_hierarchy.proofs.NamesSeen.{types_seen}

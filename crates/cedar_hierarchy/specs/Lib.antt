@@ -1,5 +1,5 @@
 -- SPDX-License-Identifier: Apache-2.0
-pub mod of_tables
+pub mod of_outlines
 pub mod Children
 pub mod Made
 pub mod Members

@@ -2,7 +2,7 @@
 -- Entity types and actions of a schema, as they are made of outlines and of the types that uses unfold to.
 use Rattle.std.specs.Prelude.{◌≡◌, ℕ, List, Option, Some, None, map}
 use Rattle.cedar_data.specs.Sets.{IsSetOf}
-use Rattle.cedar_tables.specs.of_declared.Names.{Names}
+use Rattle.cedar_outlines.specs.of_declared.Names.{Names}
 use Rattle.cedar_hierarchy.specs.Outlined.{ActionOutlineDescends, OutlineDescends}
 use Rattle.cedar_hierarchy.specs.Targets.{AreMeant}
 use Rattle.cedar_hierarchy.specs.Uses.{Uses, record_at_use, type_at_use}
@@ -17,9 +17,9 @@ use Rattle.cedar_resolved.specs.declared.entity_type.ValidatorEntityType.{Valida
 use Rattle.cedar_resolved.specs.declared.kind.ValidatorEntityTypeKind.{ValidatorEntityTypeKind}
 use Rattle.cedar_schema_error.specs.FullNames.{FullName, Uid, uid_cmp, uid_in}
 use Rattle.cedar_schema_error.specs.declared.use_place.UsePlace.TheVariants.{Context, Shape, Tags}
-use Rattle.cedar_tables.specs.Outlines.{ActionParts, EntityParts}
-use Rattle.cedar_tables.specs.declared.outlines.ActionOutline.{ActionOutline}
-use Rattle.cedar_tables.specs.declared.outlines.EntityOutline.{EntityOutline}
+use Rattle.cedar_outlines.specs.Outlines.{ActionParts, EntityParts}
+use Rattle.cedar_outlines.specs.declared.outlines.ActionOutline.{ActionOutline}
+use Rattle.cedar_outlines.specs.declared.outlines.EntityOutline.{EntityOutline}
 use Rattle.cedar_text.specs.declared.non_empty.NonEmpty.{NonEmpty}
 use Rattle.cedar_types.specs.Types.{record_type}
 use Rattle.cedar_types.specs.declared.ty.Attributes.{Attributes}

@@ -2,7 +2,7 @@
 -- Entity types and actions before the closure: the children of each in place of its descendants.
 use Rattle.std.specs.Prelude.{◌≡◌, List}
 use Rattle.cedar_closure.specs.Closure.{IsLeastOnCycle}
-use Rattle.cedar_tables.specs.of_declared.Names.{Names}
+use Rattle.cedar_outlines.specs.of_declared.Names.{Names}
 use Rattle.cedar_hierarchy.specs.Children.{children_at}
 use Rattle.cedar_hierarchy.specs.Made.{DescribesAction, DescribesEntity}
 use Rattle.cedar_hierarchy.specs.Uses.{Uses}
@@ -14,8 +14,8 @@ use Rattle.cedar_resolved.specs.declared.action.ValidatorActionId.{ValidatorActi
 use Rattle.cedar_resolved.specs.declared.entity_type.ValidatorEntityType.{ValidatorEntityType}
 use Rattle.cedar_schema_error.specs.declared.schema_error.SchemaError.{SchemaError}
 use Rattle.cedar_schema_error.specs.declared.schema_error.SchemaError.TheVariants.{CycleInActionHierarchy}
-use Rattle.cedar_tables.specs.declared.outlines.ActionOutline.{ActionOutline}
-use Rattle.cedar_tables.specs.declared.outlines.EntityOutline.{EntityOutline}
+use Rattle.cedar_outlines.specs.declared.outlines.ActionOutline.{ActionOutline}
+use Rattle.cedar_outlines.specs.declared.outlines.EntityOutline.{EntityOutline}
 
 -- an entity type with its children
 pub record IsEntityNode (children : List (EntityType × List EntityType)) (uses : Uses) (outline : EntityType × EntityOutline) (made : EntityType × ValidatorEntityType) : Type 0 where

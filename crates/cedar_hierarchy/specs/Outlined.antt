@@ -2,11 +2,11 @@
 -- What descends from what, among the outlines of entity types and of actions.
 use Rattle.std.specs.Prelude.{List}
 use Rattle.cedar_closure.specs.Chains.{Reaches}
-use Rattle.cedar_tables.specs.of_declared.Names.{Names, action_target, target}
+use Rattle.cedar_outlines.specs.of_declared.Names.{Names, action_target, target}
 use Rattle.cedar_hierarchy.specs.Members.{IsMember}
 use Rattle.cedar_names.specs.Order.{words_cmp}
 use Rattle.cedar_schema_error.specs.FullNames.{FullName, Uid, uid_cmp}
-use Rattle.cedar_tables.specs.Outlines.{ActionParts, EntityParts}
+use Rattle.cedar_outlines.specs.Outlines.{ActionParts, EntityParts}
 
 module _ (names : Names) (os : List (FullName × EntityParts)) where
   -- an entity type, and the target of one of its parents

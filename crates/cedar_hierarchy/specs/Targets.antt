@@ -4,7 +4,7 @@ use Rattle.std.specs.Prelude.{◌&&◌, Bool, false, not, IsTrue, List, Option, 
 use Rattle.std.specs.BTreeMap.{is_at}
 use Rattle.std.specs.declared.cmp.Ordering.{Ordering}
 use Rattle.cedar_data.specs.Sets.{contains, IsSetOf}
-use Rattle.cedar_tables.specs.of_declared.Names.{Names, action_target, target, targets}
+use Rattle.cedar_outlines.specs.of_declared.Names.{Names, action_target, target, targets}
 use Rattle.cedar_fragment.specs.ActionUids.{over_conditional}
 use Rattle.cedar_fragment.specs.declared.action_uid.ActionEntityUID.{ActionEntityUID}
 use Rattle.cedar_names.specs.Components.{has_cedar}

@@ -2,7 +2,7 @@
 ghost use Rattle.std.specs.Prelude.{◌≡◌, [], map, IfOk};
 ghost use Rattle.std.specs.List.{AllZip};
 ghost use Rattle.cedar_closure.specs.Closure.{IsClosure};
-ghost use Rattle.cedar_tables.specs.of_declared.Held.{names_of};
+ghost use Rattle.cedar_outlines.specs.of_declared.Held.{names_of};
 ghost use Rattle.cedar_hierarchy.specs.Made.{MakesEntity, entity_attributes, entity_kind};
 ghost use Rattle.cedar_hierarchy.specs.Nodes.{IsEntityNode};
 ghost use Rattle.cedar_hierarchy.specs.Parents.{is_type_parent};
@@ -11,7 +11,7 @@ ghost use Rattle.cedar_names.specs.Names.{entity_cmp};
 ghost use Rattle.cedar_resolved.specs.Kinds.{standard_kind};
 ghost use Rattle.cedar_resolved.specs.Schemas.{type_attributes, type_name, type_with};
 ghost use Rattle.cedar_schema_error.specs.declared.use_place.UsePlace.TheVariants.{Shape, Tags};
-ghost use Rattle.cedar_tables.specs.Outlines.{entity_outline_in};
+ghost use Rattle.cedar_outlines.specs.Outlines.{entity_outline_in};
 
 use crate::children::{Children, children_of};
 use crate::gathered::{HasParents, gather};
@@ -21,9 +21,9 @@ use crate::uses::{Uses, copy_at, record_at};
 use cedar_closure::close_map;
 use cedar_data::{Dup, Failure, Map, Mem, Near, NoMemory, Set, Text};
 use cedar_names::EntityType;
+use cedar_outlines::{AllDefs, EntityOutline};
 use cedar_resolved::ValidatorEntityType;
 use cedar_schema_error::UsePlace;
-use cedar_tables::{AllDefs, EntityOutline};
 use cedar_text::{Loc, NonEmpty};
 use cedar_types::{Attributes, OpenTag, Type};
 use std::alloc::Global;

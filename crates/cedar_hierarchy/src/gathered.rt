@@ -1,19 +1,19 @@
 // SPDX-License-Identifier: Apache-2.0
 ghost use Rattle.std.specs.Prelude.{◌≡◌, IfOk};
 ghost use Rattle.cedar_data.specs.Maps.{IsSortedMap};
-ghost use Rattle.cedar_tables.specs.of_declared.Held.{names_of};
+ghost use Rattle.cedar_outlines.specs.of_declared.Held.{names_of};
 ghost use Rattle.cedar_hierarchy.specs.Children.{has_parent, is_child};
 
 use crate::children::{Children, link};
 use cedar_data::{Dup, Map, Mem, Set};
-use cedar_tables::AllDefs;
+use cedar_outlines::AllDefs;
 use std::alloc::Global;
 
 /// What has parents, whose keys are `K`.
 pub(crate) trait HasParents<K: Ord> {
     ghost use Rattle.std.specs.Prelude.{Bool};
     ghost use Rattle.cedar_data.specs.Sets.{contains};
-    ghost use Rattle.cedar_tables.specs.of_declared.Names.{Names};
+    ghost use Rattle.cedar_outlines.specs.of_declared.Names.{Names};
 
     /// Whether it has this key as a parent, among these names.
     ghost is_parent: { Names → Self → K → Bool };

@@ -11,6 +11,6 @@ mod targets;
 mod uses;
 
 pub use actions::resolved_actions;
-pub use cedar_tables::{ActionOutline, EntityOutline, Tables, tables_of};
+pub use cedar_outlines::{ActionOutline, EntityOutline, Tables};
 pub use entity_types::resolved_entity_types;
 pub use targets::find_target;

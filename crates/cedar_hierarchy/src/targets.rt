@@ -5,9 +5,9 @@ ghost use Rattle.std.specs.Option.{option_copied, option_map};
 ghost use Rattle.std.specs.List.{list_any};
 ghost use Rattle.std.specs.List.Sorted.{IsStrictlySortedBy};
 ghost use Rattle.cedar_data.specs.Sets.{contains};
-ghost use Rattle.cedar_tables.specs.of_declared.Held.{names_of};
-ghost use Rattle.cedar_tables.specs.of_declared.Names.{action_target, is_action, is_declared};
-ghost use Rattle.cedar_tables.specs.of_declared.Targets.{action_at, found};
+ghost use Rattle.cedar_outlines.specs.of_declared.Held.{names_of};
+ghost use Rattle.cedar_outlines.specs.of_declared.Names.{action_target, is_action, is_declared};
+ghost use Rattle.cedar_outlines.specs.of_declared.Targets.{action_at, found};
 ghost use Rattle.cedar_hierarchy.specs.Targets.{is_action_meant, is_here, is_type_meant};
 ghost use Rattle.cedar_names.specs.Components.{components, has_cedar};
 ghost use Rattle.cedar_names.specs.Names.{entity_words};
@@ -16,14 +16,14 @@ ghost use Rattle.cedar_schema_error.specs.NameReferences.{action_reference_of};
 
 use cedar_data::{Dup, Mem, Set, Text};
 use cedar_names::{Eid, EntityType, EntityUID, InternalName, Name};
+use cedar_outlines::AllDefs;
 use cedar_schema_error::{ActionEntityUID, ConditionalName, ReferenceType};
-use cedar_tables::AllDefs;
 use std::alloc::Global;
 
 /// References to what has keys `K`.
 pub(crate) trait IsReference<K: Ord>: Ord {
     ghost use Rattle.std.specs.Prelude.{Bool};
-    ghost use Rattle.cedar_tables.specs.of_declared.Names.{Names};
+    ghost use Rattle.cedar_outlines.specs.of_declared.Names.{Names};
     ghost use Rattle.cedar_hierarchy.specs.Targets.{is_here};
 
     /// Whether a reference means this key, among these names.

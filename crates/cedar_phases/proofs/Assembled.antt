@@ -29,9 +29,9 @@ use Rattle.cedar_schema_error.specs.Refusals.{CycleInActionHierarchy, Refusal}
 use Rattle.cedar_schema_error.specs.declared.use_place.UsePlace.{UsePlace}
 use Rattle.cedar_sound.specs.Sound.{ActionCycles, Passes, RefusesAt, UndeclaredTypes}
 use Rattle.cedar_sound.proofs.NothingMissed.{applications_free}
-use Rattle.cedar_hierarchy.specs.of_tables.Outlines.{action_outline_in, entity_outline_in}
-use Rattle.cedar_hierarchy.specs.of_tables.declared.outlines.ActionOutline.{ActionOutline}
-use Rattle.cedar_hierarchy.specs.of_tables.declared.outlines.EntityOutline.{EntityOutline}
+use Rattle.cedar_hierarchy.specs.of_outlines.Outlines.{action_outline_in, entity_outline_in}
+use Rattle.cedar_hierarchy.specs.of_outlines.declared.outlines.ActionOutline.{ActionOutline}
+use Rattle.cedar_hierarchy.specs.of_outlines.declared.outlines.EntityOutline.{EntityOutline}
 use Rattle.cedar_types.specs.declared.ty.ResolvedType.{ResolvedType}
 use Rattle.cedar_undeclared.specs.Undeclared.{is_free, undeclared_refusal}
 use Rattle.cedar_qualified.specs.of_world.Denotes.{Denotes, DenotesAction}

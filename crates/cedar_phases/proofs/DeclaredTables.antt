@@ -4,8 +4,8 @@ use Rattle.std.proofs.Common.{◌≡◌, List, map, ap, ◌∙◌}
 use Rattle.cedar_declared.specs.declared.all_defs.AllDefs.{AllDefs}
 use Rattle.cedar_names.specs.declared.extensions.Extensions.{Extensions}
 use Rattle.cedar_phases.specs.Holding.{AreTables, Definition, Holds}
-use Rattle.cedar_hierarchy.specs.of_tables.Outlines.{action_outline, action_outline_in, entity_outline, entity_outline_in, use_in}
-use Rattle.cedar_hierarchy.specs.of_tables.declared.outlines.Tables.{Tables}
+use Rattle.cedar_hierarchy.specs.of_outlines.Outlines.{action_outline, action_outline_in, entity_outline, entity_outline_in, use_in}
+use Rattle.cedar_hierarchy.specs.of_outlines.declared.outlines.Tables.{Tables}
 use Rattle.cedar_qualified.specs.of_world.DefinitionViews.{common_type_in, namespace_in}
 use Rattle.cedar_qualified.specs.of_world.Worlds.{World, actions_in, all_namespaces, common_types_in, entity_types_in, uses_in}
 

@@ -11,7 +11,7 @@ use Rattle.cedar_names.specs.Order.{words_cmp}
 use Rattle.cedar_phases.proofs.Chained.{chain_there, lookup_through, unchanged}
 use Rattle.cedar_schema_error.specs.FullNames.{FullName, Uid, uid_cmp}
 use Rattle.cedar_schema_error.specs.NameReferences.{ActionReference, NameReference}
-use Rattle.cedar_hierarchy.specs.of_tables.Outlines.{ActionParts, EntityParts, action_outline, action_parts, entity_outline, entity_parts}
+use Rattle.cedar_hierarchy.specs.of_outlines.Outlines.{ActionParts, EntityParts, action_outline, action_parts, entity_outline, entity_parts}
 use Rattle.cedar_qualified.specs.of_world.Definitions.{parents_of}
 use Rattle.cedar_qualified.specs.of_world.Descents.{ActionDescendsFrom, ActionMember, DescendsFrom, Member}
 use Rattle.cedar_qualified.specs.of_world.Worlds.{World, actions, entity_types, names}

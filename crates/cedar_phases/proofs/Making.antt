@@ -37,9 +37,9 @@ use Rattle.cedar_sound.proofs.NameOrders.{names_exact, uids_exact}
 use Rattle.cedar_sound.proofs.NothingMissed.{AreFree}
 use Rattle.cedar_sound.proofs.SortedMaps.{found-each, sorted-map_of}
 use Rattle.cedar_sound.proofs.UsesFound.{context_found, no_tags_found, shape_found, tags_found}
-use Rattle.cedar_hierarchy.specs.of_tables.Outlines.{ActionParts, EntityParts, action_outline, action_outline_in, choices_of, entity_outline, entity_outline_in}
-use Rattle.cedar_hierarchy.specs.of_tables.declared.outlines.ActionOutline.{ActionOutline}
-use Rattle.cedar_hierarchy.specs.of_tables.declared.outlines.EntityOutline.{EntityOutline}
+use Rattle.cedar_hierarchy.specs.of_outlines.Outlines.{ActionParts, EntityParts, action_outline, action_outline_in, choices_of, entity_outline, entity_outline_in}
+use Rattle.cedar_hierarchy.specs.of_outlines.declared.outlines.ActionOutline.{ActionOutline}
+use Rattle.cedar_hierarchy.specs.of_outlines.declared.outlines.EntityOutline.{EntityOutline}
 use Rattle.cedar_text.specs.Lists.{elements}
 use Rattle.cedar_text.specs.declared.non_empty.NonEmpty.{NonEmpty}
 use Rattle.cedar_types.specs.Types.{entries}

@@ -28,9 +28,9 @@ use Rattle.cedar_schema_error.specs.Told.{told_use}
 use Rattle.cedar_schema_error.specs.declared.use_place.UsePlace.{UsePlace}
 use Rattle.cedar_sound.specs.Sound.{Passes, References, RefusesAt, UndeclaredTypes, Unfolding}
 use Rattle.cedar_sound.proofs.NothingMissed.{applications_free, parents_free, pass_append, pass_flat, pass_weaker}
-use Rattle.cedar_hierarchy.specs.of_tables.Outlines.{ActionParts, EntityParts, action_outline, action_outline_in, entity_outline, entity_outline_in}
-use Rattle.cedar_hierarchy.specs.of_tables.declared.outlines.ActionOutline.{ActionOutline}
-use Rattle.cedar_hierarchy.specs.of_tables.declared.outlines.EntityOutline.{EntityOutline}
+use Rattle.cedar_hierarchy.specs.of_outlines.Outlines.{ActionParts, EntityParts, action_outline, action_outline_in, entity_outline, entity_outline_in}
+use Rattle.cedar_hierarchy.specs.of_outlines.declared.outlines.ActionOutline.{ActionOutline}
+use Rattle.cedar_hierarchy.specs.of_outlines.declared.outlines.EntityOutline.{EntityOutline}
 use Rattle.cedar_undeclared.specs.Undeclared.{IsUndeclaredAmong, full_types, is_free, names_of_entities, undeclared_refusal}
 use Rattle.cedar_unfold.specs.Faults.{faults}
 use Rattle.cedar_unfold.specs.Full.{by_place}

@@ -28,7 +28,7 @@ use Rattle.cedar_schema_error.specs.declared.use_place.UsePlace.{UsePlace}
 use Rattle.cedar_schema_error.specs.Refusals as refusal
 use Rattle.cedar_sound.specs.Sound.{Passes, References, RefusesAt, Unfolding}
 use Rattle.cedar_sound.proofs.NothingMissed.{IsWhole, commons_whole, none_of_all, pass_unmap, uses_whole}
-use Rattle.cedar_hierarchy.specs.of_tables.Outlines.{use_in}
+use Rattle.cedar_hierarchy.specs.of_outlines.Outlines.{use_in}
 use Rattle.cedar_text.specs.Words.{has_word}
 use Rattle.cedar_unfold.specs.Full.{by_place, job_of}
 use Rattle.cedar_unfold.specs.Resolved.{Resolved}

@@ -18,15 +18,15 @@ use Rattle.cedar_schema_error.specs.Refusals.{Refusal}
 use Rattle.cedar_schema_error.specs.Refusals as refusal
 use Rattle.cedar_unfold.specs.Written.{Written}
 use Rattle.cedar_sound.specs.Sound.{ActionCycles, Duplicates, Passes, Phase, References, RefusesAt, UndeclaredTypes, Unfolding}
-use Rattle.cedar_hierarchy.specs.of_tables.Outlines.{action_outline, action_outline_in, entity_outline, entity_outline_in, use_in}
-use Rattle.cedar_hierarchy.specs.of_tables.declared.outlines.Tables.{Tables}
+use Rattle.cedar_hierarchy.specs.of_outlines.Outlines.{action_outline, action_outline_in, entity_outline, entity_outline_in, use_in}
+use Rattle.cedar_hierarchy.specs.of_outlines.declared.outlines.Tables.{Tables}
 use Rattle.cedar_names.specs.Components.{components}
 use Rattle.cedar_names.specs.declared.entity_uid.EntityUID.{EntityUID}
 use Rattle.cedar_names.specs.declared.internal_name.InternalName.{InternalName}
 use Rattle.cedar_names.specs.declared.name.EntityType.{EntityType}
 use Rattle.cedar_schema_error.specs.declared.use_place.UsePlace as code
-use Rattle.cedar_hierarchy.specs.of_tables.declared.outlines.ActionOutline.{ActionOutline}
-use Rattle.cedar_hierarchy.specs.of_tables.declared.outlines.EntityOutline.{EntityOutline}
+use Rattle.cedar_hierarchy.specs.of_outlines.declared.outlines.ActionOutline.{ActionOutline}
+use Rattle.cedar_hierarchy.specs.of_outlines.declared.outlines.EntityOutline.{EntityOutline}
 use Rattle.cedar_types.specs.declared.ty.ResolvedType.{ResolvedType}
 use Rattle.cedar_unfold.specs.Full.{by_place}
 use Rattle.cedar_unfold.specs.ResolvedViews.{resolved}

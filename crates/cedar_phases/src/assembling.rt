@@ -10,7 +10,7 @@ ghost use Rattle.cedar_checks.specs.SchemaViews.{IsNamed, schema_in, types_of};
 ghost use Rattle.cedar_names.specs.Components.{components};
 ghost use Rattle.cedar_resolved.specs.Schemas.{action_types};
 ghost use Rattle.cedar_schema_error.specs.Told.{told};
-ghost use Rattle.cedar_hierarchy.specs.of_tables.Outlines.{entity_outline_in};
+ghost use Rattle.cedar_hierarchy.specs.of_outlines.Outlines.{entity_outline_in};
 ghost use Rattle.cedar_undeclared.specs.Undeclared.{is_free, undeclared_refusal};
 ghost use Rattle.cedar_qualified.specs.of_world.Denotes.{Denotes};
 ghost use Rattle.cedar_qualified.specs.of_world.Worlds.{World};

@@ -44,7 +44,7 @@ fn push_all<T: Drop>(items: &mut Vec<T>, more: Vec<T>) -> Mem<()>
 }
 
 /// The definitions of all fragments, in order.
-#[tactic(auto, using(cedar_tables::proofs::Appended::appended))]
+#[tactic(auto, using(cedar_outlines::proofs::Appended::appended))]
 fn all_definitions(alloc: Global, fragments: Vec<Fragment>) -> Mem<Vec<Definition>>
     ensures { IfOk result (λ all. all.items ≡ flat_map definitions_of fragments.items) }
 {

@@ -5,7 +5,7 @@ ghost use Rattle.cedar_declared.specs.Held.{names_of};
 ghost use Rattle.cedar_names.specs.Components.{components};
 ghost use Rattle.cedar_phases.specs.NotDeclared.{other_targets};
 ghost use Rattle.cedar_schema_error.specs.NameReferences.{reference_of};
-ghost use Rattle.cedar_hierarchy.specs.of_tables.Outlines.{action_outline_in, entity_outline_in, parts_of_action};
+ghost use Rattle.cedar_hierarchy.specs.of_outlines.Outlines.{action_outline_in, entity_outline_in, parts_of_action};
 
 use cedar_data::{Dup, Map, Mem, Set};
 use cedar_declared::AllDefs;
@@ -56,7 +56,7 @@ fn push_other_target(
 }
 
 /// Puts the names that references mean and that are no declared entity types behind the others, in order.
-#[tactic(auto, using(cedar_tables::proofs::Appended::appended))]
+#[tactic(auto, using(cedar_outlines::proofs::Appended::appended))]
 fn push_other_targets(
     alloc: Global,
     all_defs: &AllDefs,
@@ -73,7 +73,7 @@ fn push_other_targets(
 }
 
 /// The same of the parents of entity types.
-#[tactic(auto, using(cedar_tables::proofs::Appended::appended))]
+#[tactic(auto, using(cedar_outlines::proofs::Appended::appended))]
 fn push_parents(
     alloc: Global,
     all_defs: &AllDefs,
@@ -117,7 +117,7 @@ fn push_application(
 }
 
 /// The same of what actions apply to: of each its principals, and then its resources.
-#[tactic(auto, using(cedar_tables::proofs::Appended::appended))]
+#[tactic(auto, using(cedar_outlines::proofs::Appended::appended))]
 fn push_applications(
     alloc: Global,
     all_defs: &AllDefs,

@@ -15,10 +15,11 @@ use crate::declaring::{Declarations, Fragment, declare};
 use crate::unfolding::unfolded_types;
 use cedar_data::Out;
 use cedar_declared::{AllDefs, ValidatorSchemaFragment};
-use cedar_hierarchy::{Tables, tables_of};
+use cedar_hierarchy::Tables;
 use cedar_names::Extensions;
 use cedar_resolved::ValidatorSchema;
 use cedar_schema_error::{ConditionalName, SchemaError};
+use cedar_tables::tables_of;
 use std::alloc::Global;
 
 /// What definitions of namespaces resolve to.

@@ -13,9 +13,9 @@ use Rattle.cedar_names.specs.declared.entity_uid.EntityUID.{EntityUID}
 use Rattle.cedar_names.specs.declared.name.EntityType.{EntityType}
 use Rattle.cedar_tables.specs.Declarations.{Action, PlacedEntity}
 use Rattle.cedar_tables.specs.Splits.{Use, action_outline_of, context_use, outline_of, shape_use, tags_use}
-use Rattle.cedar_tables.specs.declared.outlines.ActionOutline.{ActionOutline}
-use Rattle.cedar_tables.specs.declared.outlines.EntityOutline.{EntityOutline}
-use Rattle.cedar_tables.proofs.Appended.{Appends, Appends-end, Appends-next, Appends-start}
+use Rattle.cedar_outlines.specs.declared.outlines.ActionOutline.{ActionOutline}
+use Rattle.cedar_outlines.specs.declared.outlines.EntityOutline.{EntityOutline}
+use Rattle.cedar_outlines.proofs.Appended.{Appends, Appends-end, Appends-next, Appends-start}
 
 -- a loop over entity types that has `left` before it has parted those that it has passed
 pub record PartsEntities (whole left : List (EntityType × PlacedEntity)) (outlines : List (EntityType × EntityOutline)) (shapes tags : List Use) : Type 0 where

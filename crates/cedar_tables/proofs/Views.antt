@@ -27,10 +27,10 @@ use Rattle.cedar_meaning.specs.Worlds.{actions_in, common_types_in, entity_types
 use Rattle.cedar_written.specs.declared.conditional_name.ConditionalName.{ConditionalName}
 use Rattle.cedar_written.specs.declared.ty.SchemaType.{SchemaType}
 use Rattle.cedar_tables.specs.Declarations.{Action, Definition, PlacedEntity, action_places, actions_of, common_types_of, entity_places, entity_types_of, fragments_of, placed, placed_in, placed_types}
-use Rattle.cedar_tables.specs.Outlines.{action_outline, action_outline_in, action_place, entity_outline, entity_outline_in, entity_parts, entity_place, parts_of_entity, use_in}
+use Rattle.cedar_outlines.specs.Outlines.{action_outline, action_outline_in, action_place, entity_outline, entity_outline_in, entity_parts, entity_place, parts_of_entity, use_in}
 use Rattle.cedar_tables.specs.Splits.{Use, action_outline_of, all_uses, context_use, fragment_shape, fragment_tags, outline_at, outline_of, shape_at, shape_use, tags_at, tags_use, use_at, uses_kept}
-use Rattle.cedar_tables.specs.declared.outlines.ActionOutline.{ActionOutline}
-use Rattle.cedar_tables.specs.declared.outlines.EntityOutline.{EntityOutline}
+use Rattle.cedar_outlines.specs.declared.outlines.ActionOutline.{ActionOutline}
+use Rattle.cedar_outlines.specs.declared.outlines.EntityOutline.{EntityOutline}
 
 map-map : {A B C : Type 0} (f : B → C) (g : A → B) (xs : List A) → map f (map g xs) ≡ map (λ x. f (g x)) xs
 map-map f g [] = refl

@@ -17,8 +17,8 @@ use Rattle.cedar_text.specs.declared.location.Loc.{Loc}
 use Rattle.cedar_written.specs.declared.conditional_name.ConditionalName.{ConditionalName}
 use Rattle.cedar_written.specs.declared.ty.SchemaType.{SchemaType}
 use Rattle.cedar_tables.specs.Declarations.{Action, Definition, PlacedEntity, actions_of, fragments_of}
-use Rattle.cedar_tables.specs.declared.outlines.ActionOutline.{ActionOutline}
-use Rattle.cedar_tables.specs.declared.outlines.EntityOutline.{EntityOutline}
+use Rattle.cedar_outlines.specs.declared.outlines.ActionOutline.{ActionOutline}
+use Rattle.cedar_outlines.specs.declared.outlines.EntityOutline.{EntityOutline}
 
 -- a use of a type
 abbrev pub Use : Type 0

@@ -5,17 +5,17 @@ ghost use Rattle.cedar_data.specs.Maps.{IsSortedMap, map_of, map_values};
 ghost use Rattle.cedar_declared.specs.Gathering.{action_cmp};
 ghost use Rattle.cedar_names.specs.Names.{entity_cmp, internal_cmp};
 ghost use Rattle.cedar_tables.specs.Declarations.{action_places, common_types_of, entity_places};
-ghost use Rattle.cedar_tables.specs.Outlines.{action_outline, action_outline_in, action_place, entity_outline, entity_outline_in, entity_place, use_in};
+ghost use Rattle.cedar_outlines.specs.Outlines.{action_outline, action_outline_in, action_place, entity_outline, entity_outline_in, entity_place, use_in};
 ghost use Rattle.cedar_tables.specs.Splits.{action_outline_of, all_uses, outline_of, use_cmp, uses_kept};
 ghost use Rattle.cedar_meaning.specs.DefinitionViews.{common_type_in, namespace_in};
 ghost use Rattle.cedar_meaning.specs.Worlds.{actions_in, common_types_in, entity_types_in, uses_in};
 
 use crate::declarations::{CommonType, Declarations, Definition};
-use crate::outlines::Tables;
 use crate::splits::{ActionSplits, EntitySplits, Use};
 use cedar_data::{Map, Mem};
 use cedar_declared::{UsePlace, ValidatorNamespaceDef};
 use cedar_names::InternalName;
+use cedar_outlines::Tables;
 use cedar_written::{ConditionalName, SchemaType};
 use std::alloc::Global;
 

@@ -118,7 +118,7 @@ impl Declarations {
     }
 
     /// What definitions declare, in their order.
-    #[tactic(auto, using(crate::proofs::Appended::appended))]
+    #[tactic(auto, using(cedar_outlines::proofs::Appended::appended))]
     pub(crate) fn gather(alloc: Global, definitions: Vec<Definition>) -> Mem<Declarations>
         ensures common_types { IfOk result (λ all. all.common_types.items
             ≡ common_types_of definitions.items) }

@@ -5,9 +5,6 @@
 
 mod apart;
 mod declarations;
-mod outlines;
 mod splits;
 
 pub use apart::tables_of;
-pub use cedar_declared::AllDefs;
-pub use outlines::{ActionOutline, EntityOutline, Tables};

@@ -10,10 +10,10 @@ ghost use Rattle.cedar_tables.specs.Splits.{action_outline_of, context_use, frag
 ghost use Rattle.cedar_meaning.specs.of_schema_error.declared.use_place.UsePlace.TheVariants as place;
 
 use crate::declarations::{Action, PlacedEntity};
-use crate::outlines::{ActionOutline, EntityOutline};
 use cedar_data::{Dup, Map, Mem, Set};
 use cedar_declared::{ActionFragment, AttributesOrContext, EntityTypeFragment, UsePlace};
 use cedar_names::{EntityType, EntityUID};
+use cedar_outlines::{ActionOutline, EntityOutline};
 use cedar_written::{ConditionalName, SchemaType};
 use std::alloc::Global;
 

@@ -1,5 +1,5 @@
 -- SPDX-License-Identifier: Apache-2.0
-use Rattle.cedar_tables.specs.of_declared.Held.{names_of}
+use Rattle.cedar_outlines.specs.of_declared.Held.{names_of}
 use Rattle.cedar_hierarchy.specs.Nodes.{IsActionNode}
 use Rattle.cedar_hierarchy.proofs.Aligned.{Aligned-push, next_in_order}
 use Rattle.cedar_resolved.specs.Schemas.{uid_cmp}

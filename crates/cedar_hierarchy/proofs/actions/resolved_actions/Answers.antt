@@ -1,6 +1,6 @@
 -- SPDX-License-Identifier: Apache-2.0
 use Rattle.std.proofs.Common.{ap}
-use Rattle.cedar_tables.specs.of_declared.Held.{names_of}
+use Rattle.cedar_outlines.specs.of_declared.Held.{names_of}
 use Rattle.cedar_hierarchy.proofs.Answering.{through_ok, through_refused}
 use Rattle.cedar_hierarchy.proofs.HierarchiesMade.{actions_acyclic, actions_made, least_action}
 use Rattle.cedar_schema_error.specs.FullNames.{uid_in}

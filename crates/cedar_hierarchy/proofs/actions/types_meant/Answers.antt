@@ -1,5 +1,5 @@
 -- SPDX-License-Identifier: Apache-2.0
-use Rattle.cedar_tables.specs.of_declared.Held.{names_of}
+use Rattle.cedar_outlines.specs.of_declared.Held.{names_of}
 use Rattle.cedar_hierarchy.proofs.TypesMeant.{are_meant}
 use Rattle.cedar_hierarchy.proofs.actions.types_meant.Goals as goal
 

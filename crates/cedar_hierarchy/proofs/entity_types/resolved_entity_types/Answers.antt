@@ -1,5 +1,5 @@
 -- SPDX-License-Identifier: Apache-2.0
-use Rattle.cedar_tables.specs.of_declared.Held.{names_of}
+use Rattle.cedar_outlines.specs.of_declared.Held.{names_of}
 use Rattle.cedar_hierarchy.proofs.Answering.{through_ok}
 use Rattle.cedar_hierarchy.proofs.HierarchiesMade.{entity_types_made}
 use Rattle.cedar_hierarchy.proofs.entity_types.resolved_entity_types.Goals as goal

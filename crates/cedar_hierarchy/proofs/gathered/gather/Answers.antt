@@ -1,5 +1,5 @@
 -- SPDX-License-Identifier: Apache-2.0
-use Rattle.cedar_tables.specs.of_declared.Held.{names_of}
+use Rattle.cedar_outlines.specs.of_declared.Held.{names_of}
 use Rattle.cedar_hierarchy.specs.Children.{has_parent}
 use Rattle.cedar_hierarchy.proofs.ChildrenLemmas.{gathered_next}
 use Rattle.cedar_hierarchy.proofs.gathered.gather.Goals as goal

@@ -2,7 +2,7 @@
 use Rattle.std.proofs.Common.{◌≡◌, ◌||◌, ◌∙◌, sym, ap, rules}
 use Rattle.std.specs.List.{list_any}
 use Rattle.cedar_data.specs.Sets.{contains}
-use Rattle.cedar_tables.specs.of_declared.Held.{names_of}
+use Rattle.cedar_outlines.specs.of_declared.Held.{names_of}
 use Rattle.cedar_hierarchy.proofs.Meant.{meant_start, meant_next, none_sorted}
 use Rattle.cedar_hierarchy.proofs.targets.all_meant.Goals as goal
 

@@ -1,6 +1,6 @@
 -- SPDX-License-Identifier: Apache-2.0
 use Rattle.std.proofs.Common.{sym}
-use Rattle.cedar_tables.proofs.of_declared.Targeted.{reserved_undeclared}
+use Rattle.cedar_outlines.proofs.of_declared.Targeted.{reserved_undeclared}
 use Rattle.cedar_hierarchy.proofs.targets.declared_action.Goals as goal
 
 pub returns-in-None : goal.returns-in-None

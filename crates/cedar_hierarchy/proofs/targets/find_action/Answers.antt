@@ -1,6 +1,6 @@
 -- SPDX-License-Identifier: Apache-2.0
 use Rattle.std.proofs.Common.{ap, ◌∙◌}
-use Rattle.cedar_tables.specs.of_declared.Held.{names_of}
+use Rattle.cedar_outlines.specs.of_declared.Held.{names_of}
 use Rattle.cedar_text.specs.Lists.{elements_left}
 use Rattle.cedar_hierarchy.proofs.Meant.{all_left}
 use Rattle.cedar_hierarchy.proofs.targets.find_action.Goals as goal

@@ -2,9 +2,9 @@
 use Rattle.std.proofs.Common.{◌≡◌, map}
 use Rattle.std.specs.List.{find}
 use Rattle.cedar_text.specs.Lists.{elements_left}
-use Rattle.cedar_tables.specs.of_declared.Held.{names_of}
-use Rattle.cedar_tables.specs.of_declared.Names.{action_target, is_action}
-use Rattle.cedar_tables.specs.of_declared.Targets.{action_at}
+use Rattle.cedar_outlines.specs.of_declared.Held.{names_of}
+use Rattle.cedar_outlines.specs.of_declared.Names.{action_target, is_action}
+use Rattle.cedar_outlines.specs.of_declared.Targets.{action_at}
 use Rattle.cedar_schema_error.specs.NameReferences.{action_reference_of}
 use Rattle.cedar_hierarchy.proofs.targets.find_action.Given as goal
 

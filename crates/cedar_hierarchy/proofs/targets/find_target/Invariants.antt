@@ -4,9 +4,9 @@ use Rattle.std.specs.List.{find}
 use Rattle.cedar_names.specs.Components.{components}
 use Rattle.cedar_text.specs.Lists.{elements_left}
 use Rattle.cedar_written.specs.Possibilities.{kind_of}
-use Rattle.cedar_tables.specs.of_declared.Held.{names_of}
-use Rattle.cedar_tables.specs.of_declared.Names.{is_declared}
-use Rattle.cedar_tables.specs.of_declared.Targets.{found}
+use Rattle.cedar_outlines.specs.of_declared.Held.{names_of}
+use Rattle.cedar_outlines.specs.of_declared.Names.{is_declared}
+use Rattle.cedar_outlines.specs.of_declared.Targets.{found}
 use Rattle.cedar_hierarchy.proofs.targets.find_target.Given as goal
 
 -- the first of those that are left is the first of all

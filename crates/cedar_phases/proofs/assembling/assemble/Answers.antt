@@ -18,7 +18,7 @@ use Rattle.cedar_resolved.specs.Schemas.{action_types}
 use Rattle.cedar_schema_error.specs.FullNames.{Uid, uid_cmp}
 use Rattle.cedar_schema_error.specs.Refusals.{CycleInActionHierarchy}
 use Rattle.cedar_schema_error.specs.Told.{told}
-use Rattle.cedar_hierarchy.specs.of_tables.Outlines.{action_outline_in, entity_outline_in}
+use Rattle.cedar_hierarchy.specs.of_outlines.Outlines.{action_outline_in, entity_outline_in}
 use Rattle.cedar_undeclared.specs.Undeclared.{is_free, undeclared_refusal}
 use Rattle.cedar_qualified.specs.of_world.Denotes.{Denotes}
 use Rattle.cedar_qualified.specs.of_world.Worlds.{World}

@@ -5,8 +5,8 @@ use Rattle.cedar_names.specs.Components.{components}
 use Rattle.cedar_phases.specs.NotDeclared.{other_targets}
 use Rattle.cedar_phases.proofs.MembershipLists.{others_seen}
 use Rattle.cedar_phases.proofs.memberships.push_applications.Goals as goal
-use Rattle.cedar_hierarchy.proofs.of_tables.Appended.{Appends-end}
-use Rattle.cedar_hierarchy.specs.of_tables.Outlines.{action_outline_in}
+use Rattle.cedar_hierarchy.proofs.of_outlines.Appended.{Appends-end}
+use Rattle.cedar_hierarchy.specs.of_outlines.Outlines.{action_outline_in}
 
 pub returns : goal.returns
 returns c = others_seen (names_of c.args.all_defs.now) (map components c.args.names.now.items) (map components c.loop-outline.names.items) action_outline_in (λ a. a.1.principals ++ a.1.resources) c.args.actions.now

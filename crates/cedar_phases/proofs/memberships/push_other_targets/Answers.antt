@@ -6,7 +6,7 @@ use Rattle.cedar_phases.specs.NotDeclared.{other_targets}
 use Rattle.cedar_phases.proofs.MembershipLists.{others_all}
 use Rattle.cedar_phases.proofs.memberships.push_other_targets.Goals as goal
 use Rattle.cedar_schema_error.specs.NameReferences.{reference_of}
-use Rattle.cedar_hierarchy.proofs.of_tables.Appended.{Appends-end}
+use Rattle.cedar_hierarchy.proofs.of_outlines.Appended.{Appends-end}
 
 pub returns : goal.returns
 returns c = others_all (names_of c.args.all_defs.now) (map components c.args.names.now.items) (map components c.loop-reference.names.items) c.args.references.now

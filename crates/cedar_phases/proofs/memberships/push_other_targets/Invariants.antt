@@ -5,7 +5,7 @@ use Rattle.cedar_names.specs.Components.{components}
 use Rattle.cedar_phases.specs.NotDeclared.{other_targets}
 use Rattle.cedar_phases.proofs.memberships.push_other_targets.Given as goal
 use Rattle.cedar_schema_error.specs.NameReferences.{reference_of}
-use Rattle.cedar_hierarchy.proofs.of_tables.Appended.{Appends}
+use Rattle.cedar_hierarchy.proofs.of_outlines.Appended.{Appends}
 
 -- behind the names from before stand the targets of the references so far
 abbrev pub invariant-loop-reference : goal.invariant-loop-reference

@@ -5,8 +5,8 @@ use Rattle.cedar_names.specs.Components.{components}
 use Rattle.cedar_phases.specs.NotDeclared.{other_targets}
 use Rattle.cedar_phases.proofs.MembershipLists.{others_seen}
 use Rattle.cedar_phases.proofs.memberships.push_parents.Goals as goal
-use Rattle.cedar_hierarchy.proofs.of_tables.Appended.{Appends-end}
-use Rattle.cedar_hierarchy.specs.of_tables.Outlines.{entity_outline_in}
+use Rattle.cedar_hierarchy.proofs.of_outlines.Appended.{Appends-end}
+use Rattle.cedar_hierarchy.specs.of_outlines.Outlines.{entity_outline_in}
 
 pub returns : goal.returns
 returns c = others_seen (names_of c.args.all_defs.now) (map components c.args.names.now.items) (map components c.loop-outline.names.items) entity_outline_in (λ e. e.1.parents) c.args.entity_types.now

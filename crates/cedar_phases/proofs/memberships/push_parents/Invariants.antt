@@ -4,8 +4,8 @@ use Rattle.cedar_declared.specs.Held.{names_of}
 use Rattle.cedar_names.specs.Components.{components}
 use Rattle.cedar_phases.specs.NotDeclared.{other_targets}
 use Rattle.cedar_phases.proofs.memberships.push_parents.Given as goal
-use Rattle.cedar_hierarchy.proofs.of_tables.Appended.{Appends}
-use Rattle.cedar_hierarchy.specs.of_tables.Outlines.{entity_outline_in}
+use Rattle.cedar_hierarchy.proofs.of_outlines.Appended.{Appends}
+use Rattle.cedar_hierarchy.specs.of_outlines.Outlines.{entity_outline_in}
 
 -- behind the names from before stand the targets of the parents so far
 abbrev pub invariant-loop-outline : goal.invariant-loop-outline

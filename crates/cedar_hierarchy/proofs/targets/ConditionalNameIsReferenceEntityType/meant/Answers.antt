@@ -1,6 +1,6 @@
 -- SPDX-License-Identifier: Apache-2.0
 use Rattle.std.proofs.Common.{◌∙◌, Some, None}
-use Rattle.cedar_tables.specs.of_declared.Held.{names_of}
+use Rattle.cedar_outlines.specs.of_declared.Held.{names_of}
 use Rattle.cedar_hierarchy.proofs.Answering.{through_ok}
 use Rattle.cedar_hierarchy.proofs.Meant.{type_meant, type_told}
 use Rattle.cedar_hierarchy.proofs.targets.ConditionalNameIsReferenceEntityType.meant.Goals as goal

@@ -2,7 +2,7 @@
 use Rattle.std.proofs.Common.{[]}
 use Rattle.std.specs.Vec.Iter.{into_iter_items}
 use Rattle.cedar_tables.specs.Declarations.{placed_types}
-use Rattle.cedar_tables.proofs.Appended.{Appends}
+use Rattle.cedar_outlines.proofs.Appended.{Appends}
 use Rattle.cedar_tables.proofs.declarations.Declarations.gather.Given as goal
 
 -- what is declared so far, with what is declared by those that are left, is all

@@ -19,8 +19,8 @@ use Rattle.cedar_meaning.specs.DefinitionViews.{type_in}
 use Rattle.cedar_meaning.specs.Definitions.{ActionDefinition, EntityDefinition, Enumerated, Standard, parents_of}
 use Rattle.cedar_written.specs.declared.conditional_name.ConditionalName.{ConditionalName}
 use Rattle.cedar_written.specs.declared.ty.SchemaType.{SchemaType}
-use Rattle.cedar_tables.specs.declared.outlines.ActionOutline.{ActionOutline}
-use Rattle.cedar_tables.specs.declared.outlines.EntityOutline.{EntityOutline}
+use Rattle.cedar_outlines.specs.declared.outlines.ActionOutline.{ActionOutline}
+use Rattle.cedar_outlines.specs.declared.outlines.EntityOutline.{EntityOutline}
 
 -- an entity type without its types: its parents, and the ids of its entities where it lists them
 pub record EntityParts : Type 0 where
