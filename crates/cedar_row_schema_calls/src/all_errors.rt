@@ -23,7 +23,7 @@ fn joined_told(alloc: Global, errors: NonEmpty<SchemaError>) -> Mem<String> {
 
 /// The error of a schema as one of its text. It stands on the heap, since so wide a value would have to be given up
 /// variant by variant.
-pub(crate) fn boxed(alloc: Global, error: SchemaError) -> Mem<Boxed<CedarSchemaError>> {
+fn boxed(alloc: Global, error: SchemaError) -> Mem<Boxed<CedarSchemaError>> {
     Boxed::new(alloc, CedarSchemaError::from(error))
 }
 
