@@ -82,24 +82,26 @@ next_at a rest before fresh clean =
     ∙ sym (unfolded a rest before)
 
 -- a name that was seen
-pub Among-found : {all left rest : List Written} {places : List (List ℕ × Loc)} (a : Written) (place : Loc) (found : Repeat) → Among all places left → left ≡ a ∷ rest
-    → Some place ≡ get word_cmp places a.node.item.name.node → found.name ≡ a.node.item.name.node → found.first ≡ place → found.second ≡ a.node.item.name.loc → Some found ≡ repeat_among (attrs_tree all) []
-Among-found {all} {left} {rest} {places} a place found r first here named one two =
-    found_at a rest r.before place found (sym (r.have a.node.item.name.node) ∙ sym here) named one two ∙ ap (λ l. repeat_among (attrs_tree l) r.before) (sym first) ∙ r.is
+pub Among-found : {all left rest : List Written} {places : List (List ℕ × Loc)} (a : Written) (word : List ℕ) (place : Loc) (found : Repeat) → Among all places left → left ≡ a ∷ rest
+    → Some place ≡ get word_cmp places word → word ≡ a.node.item.name.node → found.name ≡ a.node.item.name.node → found.first ≡ place → found.second ≡ a.node.item.name.loc → Some found ≡ repeat_among (attrs_tree all) []
+Among-found {all} {left} {rest} {places} a word place found r first here same named one two =
+    let known : place_of r.before a.node.item.name.node ≡ Some place = sym (r.have a.node.item.name.node) ∙ ap (λ w. get word_cmp places w) (sym same) ∙ sym here in
+    found_at a rest r.before place found known named one two ∙ ap (λ l. repeat_among (attrs_tree l) r.before) (sym first) ∙ r.is
 
 -- a name that was not seen, with a repeat in its type
-pub Among-inner : {all left rest : List Written} {places : List (List ℕ × Loc)} (a : Written) (inner : Repeat) → Among all places left → left ≡ a ∷ rest
-    → None ≡ get word_cmp places a.node.item.name.node → Some inner ≡ leftmost_repeat (type_tree a.node.item.ty.node) → Some inner ≡ repeat_among (attrs_tree all) []
-Among-inner {all} {left} {rest} {places} a inner r first new is =
-    inner_at a rest r.before inner (sym (r.have a.node.item.name.node) ∙ sym new) is ∙ ap (λ l. repeat_among (attrs_tree l) r.before) (sym first) ∙ r.is
+pub Among-inner : {all left rest : List Written} {places : List (List ℕ × Loc)} (a : Written) (word : List ℕ) (inner : Repeat) → Among all places left → left ≡ a ∷ rest
+    → None ≡ get word_cmp places word → word ≡ a.node.item.name.node → Some inner ≡ leftmost_repeat (type_tree a.node.item.ty.node) → Some inner ≡ repeat_among (attrs_tree all) []
+Among-inner {all} {left} {rest} {places} a word inner r first new same is =
+    let fresh : place_of r.before a.node.item.name.node ≡ None = sym (r.have a.node.item.name.node) ∙ ap (λ w. get word_cmp places w) (sym same) ∙ sym new in
+    inner_at a rest r.before inner fresh is ∙ ap (λ l. repeat_among (attrs_tree l) r.before) (sym first) ∙ r.is
 
 -- one without, put at its place
 pub Among-next : {all left rest : List Written} {places places' : List (List ℕ × Loc)} (a : Written) (word : List ℕ) (place : Loc) → Among all places left → left ≡ a ∷ rest
-    → None ≡ get word_cmp places a.node.item.name.node → None ≡ leftmost_repeat (type_tree a.node.item.ty.node) → word ≡ a.node.item.name.node → place ≡ a.node.item.name.loc
+    → None ≡ get word_cmp places word → None ≡ leftmost_repeat (type_tree a.node.item.ty.node) → word ≡ a.node.item.name.node → place ≡ a.node.item.name.loc
     → Puts word_cmp places places' word place → Among all places' rest
 Among-next {all} {left} {rest} {places} {places'} a word place r first new clean named placed puts =
     let n = a.node.item.name in
-    let fresh : place_of r.before n.node ≡ None = sym (r.have n.node) ∙ sym new in
+    let fresh : place_of r.before n.node ≡ None = sym (r.have n.node) ∙ ap (λ w. get word_cmp places w) (sym named) ∙ sym new in
     record {
       before = r.before ++ n ∷ [];
       have = places_next places places' n word place r.before r.have fresh named placed puts;

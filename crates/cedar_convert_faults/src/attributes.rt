@@ -71,8 +71,9 @@ pub(crate) fn repeat_among(
     let mut places: Map<Text, Loc> = Map::new(alloc);
     for attr in attrs.as_slice() {
         let decl = &attr.node.item;
-        if let Some(place) = places.get(&decl.name.node) {
-            let first = place.dup(alloc)?;
+        let word = decl.name.node.dup(alloc)?;
+        let place = decl.name.loc.dup(alloc)?;
+        if let Some(first) = places.insert(word, place)? {
             let second = decl.name.loc.dup(alloc)?;
             let name = decl.name.node.dup(alloc)?;
             return Ok(Some(Repeat {
@@ -84,9 +85,6 @@ pub(crate) fn repeat_among(
         if let Some(inner) = leftmost_repeat(alloc, &decl.ty.node)? {
             return Ok(Some(inner));
         }
-        let word = decl.name.node.dup(alloc)?;
-        let place = decl.name.loc.dup(alloc)?;
-        places.put(word, place)?;
     }
     Ok(None)
 }
