@@ -10,7 +10,8 @@ use Rattle.cedar_names.specs.Components.{loc_of}
 use Rattle.cedar_names.specs.EntityUids.{place_of}
 use Rattle.cedar_names.specs.Names.{internal_of}
 use Rattle.cedar_fragment.specs.of_closure.TcErrors.{vertex_of}
-use Rattle.cedar_schema_error.specs.NameTexts.{context_or_shape_location, deep_location, entity_place, parent_place, range, reference_place}
+use Rattle.cedar_places.specs.Places.{entity_place, range}
+use Rattle.cedar_schema_error.specs.NameTexts.{context_or_shape_location, deep_location, parent_place, reference_place}
 use Rattle.cedar_schema_error.specs.declared.schema_error.SchemaError.{SchemaError}
 use Rattle.cedar_schema_error.specs.declared.schema_error.SchemaError.TheVariants as error
 

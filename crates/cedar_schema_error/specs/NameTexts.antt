@@ -1,17 +1,16 @@
 -- SPDX-License-Identifier: Apache-2.0
 -- What errors print of names, and where those stand.
-use Rattle.std.specs.Prelude.{◌++◌, ℕ, List, [], ◌∷◌, Option, None, codes, option_to_list}
-use Rattle.std.specs.Option.{option_map, option_map_or}
+use Rattle.std.specs.Prelude.{◌++◌, ℕ, List, [], ◌∷◌, Option, None, codes}
+use Rattle.std.specs.Option.{option_map_or}
 use Rattle.cedar_names.specs.of_text.Escapes.{escaped}
 use Rattle.cedar_names.specs.of_text.Joining.{joined}
-use Rattle.cedar_names.specs.of_text.Places.{span_of}
 use Rattle.cedar_names.specs.of_text.declared.location.Loc.{Loc}
-use Rattle.cedar_names.specs.of_text.declared.location.Span.{Span}
 use Rattle.cedar_names.specs.Components.{components, loc_of}
 use Rattle.cedar_names.specs.EntityUids.{place_of, uid_text}
-use Rattle.cedar_names.specs.Names.{entity_words, internal_of, name_of}
+use Rattle.cedar_names.specs.Names.{entity_words}
 use Rattle.cedar_names.specs.declared.internal_name.InternalName.{InternalName}
 use Rattle.cedar_names.specs.declared.name.EntityType.{EntityType}
+use Rattle.cedar_places.specs.Places.{entity_place}
 use Rattle.cedar_fragment.specs.ActionUids.{over_conditional, type_in}
 use Rattle.cedar_fragment.specs.declared.action_uid.ActionEntityUID.{ActionEntityUID}
 use Rattle.cedar_written.specs.Possibilities.{possibilities_of, raw_of, written}
@@ -63,10 +62,6 @@ kind_text Common = codes "as a common type"
 kind_text Entity = codes "as an entity type"
 kind_text CommonOrEntity = codes "as a common or entity type"
 
--- the place of an entity type
-abbrev pub entity_place : EntityType → Option Loc
-entity_place ty = loc_of (internal_of (name_of ty))
-
 -- the place of a reference
 abbrev pub reference_place : ConditionalName → Option Loc
 reference_place n = loc_of (written (raw_of n))
@@ -90,7 +85,3 @@ deep_location (deep.Place place) = use_location place
 abbrev pub context_or_shape_location : ContextOrShape → Option Loc
 context_or_shape_location (ActionContext uid) = place_of uid
 context_or_shape_location (EntityTypeShape ty) = entity_place ty
-
--- the range of a place, if there is one
-abbrev pub range : Option Loc → List Span
-range place = option_to_list (option_map span_of place)

@@ -1,9 +1,9 @@
 // SPDX-License-Identifier: Apache-2.0
-ghost use Rattle.std.specs.Prelude.{◌≡◌, ◌++◌, ◌∷◌, IfOk, OnOk};
+ghost use Rattle.std.specs.Prelude.{◌≡◌, ◌∷◌, IfOk};
 ghost use Rattle.std.specs.List.{flat_map};
 ghost use Rattle.std.specs.Option.{option_copied};
 ghost use Rattle.cedar_schema_error.specs.ErrorPlaces.{places_of, ranges};
-ghost use Rattle.cedar_schema_error.specs.NameTexts.{context_or_shape_location, deep_location, range, use_location};
+ghost use Rattle.cedar_schema_error.specs.NameTexts.{context_or_shape_location, deep_location, use_location};
 
 use crate::name_errors::TypeNotDefinedError;
 use crate::schema_error::SchemaError;
@@ -11,6 +11,7 @@ use crate::shown::Shown;
 use crate::type_errors::ContextOrShape;
 use crate::use_place::{DeepPlace, UsePlace};
 use cedar_names::{Loc, Mem, NonEmpty, Span};
+use cedar_places::{both_ranges, push_range, range_of};
 use std::alloc::Global;
 
 impl UsePlace {
@@ -48,35 +49,6 @@ impl ContextOrShape {
             ContextOrShape::EntityTypeShape(ty) => ty.loc(),
         }
     }
-}
-
-/// Puts the range of a place behind the others, if there is one.
-fn push_range(spans: &mut Vec<Span>, place: Option<&Loc>) -> Mem<()>
-    ensures { OnOk result (spans.new.items ≡ spans.old.items ++ range (option_copied place.entry)) }
-{
-    if let Some(loc) = place {
-        spans.push(loc.span())?;
-    }
-    Ok(())
-}
-
-/// The range of a place, if there is one.
-fn range_of(alloc: Global, place: Option<&Loc>) -> Mem<Vec<Span>>
-    ensures { IfOk result (λ spans. spans.items ≡ range (option_copied place.entry)) }
-{
-    let mut spans = Vec::new(alloc);
-    push_range(&mut spans, place)?;
-    Ok(spans)
-}
-
-/// The ranges of two places.
-fn both_ranges(alloc: Global, first: Option<&Loc>, second: Option<&Loc>) -> Mem<Vec<Span>>
-    ensures { IfOk result (λ spans. spans.items ≡ range (option_copied first.entry)
-        ++ range (option_copied second.entry)) }
-{
-    let mut spans = range_of(alloc, first)?;
-    push_range(&mut spans, second)?;
-    Ok(spans)
 }
 
 /// The ranges of pieces.

@@ -6,7 +6,8 @@ ghost use Rattle.cedar_names.specs.EntityUids.{place_of, uid_text};
 ghost use Rattle.cedar_names.specs.Components.{loc_of};
 ghost use Rattle.cedar_names.specs.of_text.declared.location.Loc.{Loc};
 ghost use Rattle.cedar_schema_error.specs.ListTexts.{and_last, behind_commas, behind_first, noun};
-ghost use Rattle.cedar_schema_error.specs.NameTexts.{entity_place, entity_text, last_possibility, parent_place, parent_text, reference_place, written_text};
+ghost use Rattle.cedar_places.specs.Places.{entity_place};
+ghost use Rattle.cedar_schema_error.specs.NameTexts.{entity_text, last_possibility, parent_place, parent_text, reference_place, written_text};
 
 use cedar_fragment::{ActionEntityUID, ConditionalName};
 use cedar_names::{EntityType, EntityUID, Escaped, InternalName, Loc};

@@ -11,7 +11,7 @@ use Rattle.cedar_names.specs.declared.id.Id.{Id}
 use Rattle.cedar_names.specs.declared.internal_name.InternalName.{InternalName}
 use Rattle.cedar_written.specs.declared.reference_type.ReferenceType.TheVariants.{CommonOrEntity}
 use Rattle.cedar_schema_error.specs.FullNames.{FullName, basename, is_qualified}
-use Rattle.cedar_schema_error.specs.NameTexts.{range}
+use Rattle.cedar_places.specs.Places.{range}
 use Rattle.cedar_schema_error.specs.Refusals.{TypeShadowing}
 use Rattle.cedar_declared.specs.Alone.{pick_all, precedes}
 use Rattle.cedar_declared.specs.Names.{Names, is_declared}

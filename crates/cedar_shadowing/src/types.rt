@@ -7,7 +7,7 @@ ghost use Rattle.cedar_names.specs.Components.{basename_of, components, loc_of};
 ghost use Rattle.cedar_names.specs.Order.{words_cmp};
 ghost use Rattle.cedar_schema_error.specs.ErrorPlaces.{places_of};
 ghost use Rattle.cedar_schema_error.specs.FullNames.{basename};
-ghost use Rattle.cedar_schema_error.specs.NameTexts.{range};
+ghost use Rattle.cedar_places.specs.Places.{range};
 ghost use Rattle.cedar_schema_error.specs.Refusals.{TypeShadowing};
 ghost use Rattle.cedar_schema_error.specs.Told.{told};
 ghost use Rattle.cedar_declared.specs.Held.{names_of};

@@ -1,7 +1,7 @@
 -- SPDX-License-Identifier: Apache-2.0
 use Rattle.std.proofs.Common.{◌≡◌, ◌++◌, take}
 use Rattle.std.specs.List.{flat_map}
-use Rattle.cedar_schema_error.specs.NameTexts.{range}
+use Rattle.cedar_places.specs.Places.{range}
 use Rattle.cedar_schema_error.proofs.places.ranges.Given as goal
 
 -- the ranges of the first piece and of those so far
