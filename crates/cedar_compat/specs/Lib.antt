@@ -5,5 +5,6 @@ pub mod BreakChecks
 pub mod Changes
 pub mod Checks
 pub mod Compatible
+pub mod FaultPlaces
 pub mod FaultTexts
 pub mod Widening

@@ -6,6 +6,7 @@ mod broken;
 mod fault;
 mod kind;
 mod kinds;
+mod places;
 mod records;
 mod schemas;
 mod types;

@@ -4,6 +4,7 @@
 
 mod fault;
 mod kind;
+mod places;
 
 pub use cedar_json_fault::JsonKind;
 pub use fault::{Fault, behind_key, write_path};

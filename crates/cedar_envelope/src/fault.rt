@@ -1,6 +1,7 @@
 // SPDX-License-Identifier: Apache-2.0
 use cedar_data::{Dup, Mem, Text};
 use cedar_json_fault::JsonKind;
+use cedar_text::Span;
 use std::alloc::Global;
 use std::error::Error;
 use std::fmt;
@@ -46,6 +47,24 @@ impl fmt::Display for EnvelopeFault {
 }
 
 impl Error for EnvelopeFault {}
+
+impl EnvelopeFault {
+    ghost use Rattle.std.specs.Prelude.{◌≡◌, [], None, IfOk};
+
+    /// What to do about it: there is nothing to say.
+    pub fn help(&self, _alloc: Global) -> Mem<Option<String>>
+        ensures { IfOk result (λ help. help ≡ None) }
+    {
+        Ok(None)
+    }
+
+    /// The places of the kept pieces that have one: none has.
+    pub fn spans(&self, alloc: Global) -> Mem<Vec<Span>>
+        ensures { IfOk result (λ spans. spans.items ≡ []) }
+    {
+        Ok(Vec::new(alloc))
+    }
+}
 
 impl Dup for EnvelopeFault {
     fn dup(&self, alloc: Global) -> Mem<EnvelopeFault> {

@@ -4,8 +4,10 @@ use Rattle.std.specs.Prelude.{ℕ, List, [], ◌∷◌, ◌++◌, codes}
 use Rattle.std.specs.List.{flat_map}
 use Rattle.cedar_text.specs.Joining.{joined}
 use Rattle.cedar_text.specs.Lists.{elements}
-use Rattle.cedar_names.specs.Components.{components}
+use Rattle.cedar_text.specs.declared.location.Span.{Span}
+use Rattle.cedar_names.specs.Components.{components, loc_of}
 use Rattle.cedar_names.specs.declared.internal_name.InternalName.{InternalName}
+use Rattle.cedar_places.specs.Places.{range}
 use Rattle.cedar_fmt.specs.declared.errors.NameCollisionsError.{NameCollisionsError}
 use Rattle.cedar_fmt.specs.declared.errors.ToCedarSchemaSyntaxError.{ToCedarSchemaSyntaxError}
 use Rattle.cedar_fmt.specs.declared.errors.ToCedarSchemaSyntaxError.TheVariants.{NameCollisions}
@@ -27,6 +29,13 @@ collisions_text e = codes "There are name collisions: [" ++ (names_text (collidi
 
 abbrev pub error_text : ToCedarSchemaSyntaxError → List ℕ
 error_text (NameCollisions e) = collisions_text e
+
+-- the ranges of the names that have a place, in order
+abbrev pub collisions_spans : NameCollisionsError → List Span
+collisions_spans e = flat_map (λ n. range (loc_of n)) (colliding e)
+
+abbrev pub error_spans : ToCedarSchemaSyntaxError → List Span
+error_spans (NameCollisions e) = collisions_spans e
 
 -- the names that an error keeps
 abbrev pub kept_names : ToCedarSchemaSyntaxError → List InternalName

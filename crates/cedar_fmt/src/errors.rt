@@ -1,13 +1,16 @@
 // SPDX-License-Identifier: Apache-2.0
-ghost use Rattle.std.specs.Prelude.{◌≡◌, ◌++◌, None, Some, IfOk, codes};
+ghost use Rattle.std.specs.Prelude.{◌≡◌, ◌++◌, None, Some, IfOk, OnOk, codes};
 ghost use Rattle.std.specs.Fmt.{WritesOnOk};
 ghost use Rattle.std.specs.List.{filter_map, flat_map};
 ghost use Rattle.cedar_text.specs.Lists.{elements, elements_left};
-ghost use Rattle.cedar_fmt.specs.Texts.{colliding, collisions_text, error_text, name_text};
+ghost use Rattle.cedar_fmt.specs.Texts.{colliding, collisions_spans, collisions_text, error_spans, error_text, name_text};
+ghost use Rattle.cedar_names.specs.Components.{loc_of};
+ghost use Rattle.cedar_places.specs.Places.{range};
 
 use cedar_data::{Dup, Mem};
 use cedar_names::InternalName;
-use cedar_text::{NonEmpty, NonEmptyIter};
+use cedar_places::{push_range, range_of};
+use cedar_text::{NonEmpty, NonEmptyIter, Span};
 use std::alloc::Global;
 use std::error::Error;
 use std::fmt;
@@ -39,6 +42,26 @@ impl NameCollisionsError {
     {
         Ok(None)
     }
+
+    /// The places of the names that have one, in bytes of their text, in order.
+    pub fn spans(&self, alloc: Global) -> Mem<Vec<Span>>
+        ensures { IfOk result (λ spans. spans.items ≡ collisions_spans self.now) }
+    {
+        let mut spans = range_of(alloc, self.names.head.loc())?;
+        push_ranges(&mut spans, self.names.tail.as_slice())?;
+        Ok(spans)
+    }
+}
+
+/// Puts the ranges of the names that have a place behind the others.
+fn push_ranges(spans: &mut Vec<Span>, names: &[InternalName]) -> Mem<()>
+    ensures { OnOk result (spans.new.items
+        ≡ spans.old.items ++ flat_map (λ n. range (loc_of n)) names.now) }
+{
+    for name in names {
+        push_range(spans, name.loc())?;
+    }
+    Ok(())
 }
 
 impl fmt::Display for NameCollisionsError {
@@ -88,6 +111,15 @@ impl ToCedarSchemaSyntaxError {
         ensures { IfOk result (λ help. help ≡ None) }
     {
         Ok(None)
+    }
+
+    /// The places of the names that have one, in bytes of their text, in order.
+    pub fn spans(&self, alloc: Global) -> Mem<Vec<Span>>
+        ensures { IfOk result (λ spans. spans.items ≡ error_spans self.now) }
+    {
+        match self {
+            ToCedarSchemaSyntaxError::NameCollisions(error) => error.spans(alloc),
+        }
     }
 }
 

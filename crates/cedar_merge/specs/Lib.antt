@@ -1,4 +1,5 @@
 -- SPDX-License-Identifier: Apache-2.0
+pub mod ErrorPlaces
 pub mod Joining
 pub mod Lookups
 pub mod Merged

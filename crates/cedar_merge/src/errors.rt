@@ -1,11 +1,15 @@
 // SPDX-License-Identifier: Apache-2.0
-ghost use Rattle.std.specs.Prelude.{Some};
+ghost use Rattle.std.specs.Prelude.{◌≡◌, None, Some, IfOk};
 ghost use Rattle.std.specs.Fmt.{WritesOnOk};
+ghost use Rattle.std.specs.Option.{option_copied, option_map_or};
+ghost use Rattle.cedar_merge.specs.ErrorPlaces.{error_spans};
 ghost use Rattle.cedar_merge.specs.Texts.{conflict_text, duplicate_text, error_text, full_text, within_text};
+ghost use Rattle.cedar_places.specs.Places.{name_place};
 
 use cedar_data::{Dup, Mem, Text, dup_two};
 use cedar_names::{AnyId, Name};
-use cedar_text::Escaped;
+use cedar_places::range_of;
+use cedar_text::{Escaped, Loc, Span};
 use std::alloc::Global;
 use std::error::Error;
 use std::fmt;
@@ -114,6 +118,41 @@ impl fmt::Display for MergeError {
 }
 
 impl Error for MergeError {}
+
+/// The place of a namespace, if it has a name and that a place.
+fn place_of(namespace: &Option<Name>) -> Option<&Loc>
+    ensures { option_copied result ≡ option_map_or name_place namespace.now None }
+{
+    match namespace {
+        Some(namespace) => namespace.as_internal().loc(),
+        None => None,
+    }
+}
+
+impl MergeError {
+    /// What to do about it: there is nothing to say.
+    pub fn help(&self, _alloc: Global) -> Mem<Option<String>>
+        ensures { IfOk result (λ help. help ≡ None) }
+    {
+        Ok(None)
+    }
+
+    /// The places of the kept names that have one, in bytes of their text: that of the namespace.
+    pub fn spans(&self, alloc: Global) -> Mem<Vec<Span>>
+        ensures { IfOk result (λ spans. spans.items ≡ error_spans self.now) }
+    {
+        match self {
+            MergeError::DuplicateDeclaration {
+                kind: _,
+                namespace,
+                name: _,
+            } => range_of(alloc, place_of(namespace)),
+            MergeError::AnnotationConflict { namespace, key: _ } => {
+                range_of(alloc, namespace.as_internal().loc())
+            }
+        }
+    }
+}
 
 impl Dup for DeclKind {
     fn dup(&self, _alloc: Global) -> Mem<DeclKind> {

@@ -1,5 +1,6 @@
 -- SPDX-License-Identifier: Apache-2.0
 pub mod of_conform
+pub mod FaultPlaces
 pub mod FaultTexts
 pub mod Numbers
 pub mod PartViews

@@ -7,6 +7,7 @@ mod environments;
 mod fault;
 mod keys;
 mod parts;
+mod places;
 mod refusing;
 mod requests;
 

@@ -1,5 +1,6 @@
 // SPDX-License-Identifier: Apache-2.0
 use cedar_data::{Dup, Mem};
+use cedar_text::Span;
 use std::alloc::Global;
 use std::error::Error;
 use std::fmt;
@@ -28,3 +29,21 @@ impl fmt::Display for SchemasNotTexts {
 }
 
 impl Error for SchemasNotTexts {}
+
+impl SchemasNotTexts {
+    ghost use Rattle.std.specs.Prelude.{◌≡◌, [], None, IfOk};
+
+    /// What to do about it: there is nothing to say.
+    pub fn help(&self, _alloc: Global) -> Mem<Option<String>>
+        ensures { IfOk result (λ help. help ≡ None) }
+    {
+        Ok(None)
+    }
+
+    /// The places of the kept pieces that have one: none has.
+    pub fn spans(&self, alloc: Global) -> Mem<Vec<Span>>
+        ensures { IfOk result (λ spans. spans.items ≡ []) }
+    {
+        Ok(Vec::new(alloc))
+    }
+}
