@@ -16,7 +16,7 @@ ghost use Rattle.cedar_written.specs.Through.{through_type};
 
 use crate::targets::{Member, target_set};
 use cedar_data::{Items, Map, Out, Set};
-use cedar_declared::{AllDefs, Resolving};
+use cedar_declared::{AllDefs, Resolving, unboxed};
 use cedar_fragment::{AttributesOrContext, ConditionalName, SchemaType, Walk};
 use cedar_names::InternalName;
 use cedar_schema_error::SchemaError;
@@ -101,7 +101,7 @@ impl Completes for SchemaType<ConditionalName> {
         alloc: Global,
         all_defs: &AllDefs,
     ) -> Out<SchemaType<InternalName>, SchemaError> {
-        self.walk(alloc, &Resolving { all_defs })
+        unboxed(self.walk(alloc, &Resolving { all_defs }))
     }
 }
 
@@ -121,7 +121,7 @@ impl Completes for Option<SchemaType<ConditionalName>> {
         alloc: Global,
         all_defs: &AllDefs,
     ) -> Out<Option<SchemaType<InternalName>>, SchemaError> {
-        self.walk(alloc, &Resolving { all_defs })
+        unboxed(self.walk(alloc, &Resolving { all_defs }))
     }
 }
 
@@ -141,7 +141,7 @@ impl Completes for AttributesOrContext<ConditionalName> {
         alloc: Global,
         all_defs: &AllDefs,
     ) -> Out<AttributesOrContext<InternalName>, SchemaError> {
-        self.walk(alloc, &Resolving { all_defs })
+        unboxed(self.walk(alloc, &Resolving { all_defs }))
     }
 }
 

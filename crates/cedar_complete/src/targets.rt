@@ -10,7 +10,7 @@ ghost use Rattle.cedar_declared.specs.Held.{names_of};
 ghost use Rattle.cedar_complete.specs.Completed.{through_set};
 
 use cedar_data::{Dup, Failure, Out, Set};
-use cedar_declared::{AllDefs, FullyQualify, Resolving};
+use cedar_declared::{AllDefs, FullyQualify, Resolving, unboxed};
 use cedar_fragment::{ActionEntityUID, ConditionalName, ReferenceType, Step};
 use cedar_names::{EntityType, InternalName, Name, ReservedNameError};
 use cedar_schema_error::SchemaError;
@@ -51,7 +51,7 @@ fn find_target(
 {
     let name = reference.dup(alloc)?;
     let step = Resolving { all_defs };
-    step.go(alloc, ReferenceType::Entity, name)
+    unboxed(step.go(alloc, ReferenceType::Entity, name))
 }
 
 /// A principal or a resource.

@@ -8,7 +8,7 @@ ghost use Rattle.cedar_declared.specs.Held.{names_of};
 ghost use Rattle.cedar_declared.specs.Targets.{resolving};
 
 use crate::all_defs::AllDefs;
-use crate::resolving::Resolving;
+use crate::resolving::{Resolving, unboxed};
 use cedar_data::Out;
 use cedar_definitions::{
     ActionEntityUID, ActionType, ApplySpec, AttributesOrContext, ConditionalName, EntityType,
@@ -50,7 +50,7 @@ impl FullyQualify for SchemaType<ConditionalName> {
         alloc: Global,
         all_defs: &AllDefs,
     ) -> Out<SchemaType<InternalName>, SchemaError> {
-        self.walk(alloc, &Resolving { all_defs })
+        unboxed(self.walk(alloc, &Resolving { all_defs }))
     }
 }
 
@@ -64,7 +64,7 @@ impl FullyQualify for TypeVariant<ConditionalName> {
         alloc: Global,
         all_defs: &AllDefs,
     ) -> Out<TypeVariant<InternalName>, SchemaError> {
-        self.walk(alloc, &Resolving { all_defs })
+        unboxed(self.walk(alloc, &Resolving { all_defs }))
     }
 }
 
@@ -78,7 +78,7 @@ impl FullyQualify for RecordType<ConditionalName> {
         alloc: Global,
         all_defs: &AllDefs,
     ) -> Out<RecordType<InternalName>, SchemaError> {
-        self.walk(alloc, &Resolving { all_defs })
+        unboxed(self.walk(alloc, &Resolving { all_defs }))
     }
 }
 
@@ -92,7 +92,7 @@ impl FullyQualify for TypeOfAttribute<ConditionalName> {
         alloc: Global,
         all_defs: &AllDefs,
     ) -> Out<TypeOfAttribute<InternalName>, SchemaError> {
-        self.walk(alloc, &Resolving { all_defs })
+        unboxed(self.walk(alloc, &Resolving { all_defs }))
     }
 }
 
@@ -106,7 +106,7 @@ impl FullyQualify for AttributesOrContext<ConditionalName> {
         alloc: Global,
         all_defs: &AllDefs,
     ) -> Out<AttributesOrContext<InternalName>, SchemaError> {
-        self.walk(alloc, &Resolving { all_defs })
+        unboxed(self.walk(alloc, &Resolving { all_defs }))
     }
 }
 
@@ -120,7 +120,7 @@ impl FullyQualify for EntityType<ConditionalName> {
         alloc: Global,
         all_defs: &AllDefs,
     ) -> Out<EntityType<InternalName>, SchemaError> {
-        self.walk(alloc, &Resolving { all_defs })
+        unboxed(self.walk(alloc, &Resolving { all_defs }))
     }
 }
 
@@ -134,7 +134,7 @@ impl FullyQualify for ApplySpec<ConditionalName> {
         alloc: Global,
         all_defs: &AllDefs,
     ) -> Out<ApplySpec<InternalName>, SchemaError> {
-        self.walk(alloc, &Resolving { all_defs })
+        unboxed(self.walk(alloc, &Resolving { all_defs }))
     }
 }
 
@@ -148,7 +148,7 @@ impl FullyQualify for ActionEntityUID<ConditionalName> {
         alloc: Global,
         all_defs: &AllDefs,
     ) -> Out<ActionEntityUID<InternalName>, SchemaError> {
-        self.walk(alloc, &Resolving { all_defs })
+        unboxed(self.walk(alloc, &Resolving { all_defs }))
     }
 }
 
@@ -162,7 +162,7 @@ impl FullyQualify for ActionType<ConditionalName> {
         alloc: Global,
         all_defs: &AllDefs,
     ) -> Out<ActionType<InternalName>, SchemaError> {
-        self.walk(alloc, &Resolving { all_defs })
+        unboxed(self.walk(alloc, &Resolving { all_defs }))
     }
 }
 
@@ -176,6 +176,6 @@ impl FullyQualify for NamespaceDefinition<ConditionalName> {
         alloc: Global,
         all_defs: &AllDefs,
     ) -> Out<NamespaceDefinition<InternalName>, SchemaError> {
-        self.walk(alloc, &Resolving { all_defs })
+        unboxed(self.walk(alloc, &Resolving { all_defs }))
     }
 }

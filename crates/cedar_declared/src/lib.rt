@@ -28,4 +28,4 @@ pub use cedar_schema_error::{
 pub use fully_qualify::FullyQualify;
 pub use laws::what_is_found_is_the_target;
 pub use resolve::ResolveName;
-pub use resolving::Resolving;
+pub use resolving::{Resolving, unboxed};

@@ -1,5 +1,5 @@
 // SPDX-License-Identifier: Apache-2.0
-ghost use Rattle.std.specs.Prelude.{◌≡◌, ℕ, true, IfOk, MatchOption};
+ghost use Rattle.std.specs.Prelude.{◌≡◌, ℕ, true, Err, IfOk, MatchOption};
 ghost use Rattle.cedar_names.specs.Components.{components, has_cedar};
 ghost use Rattle.cedar_written.specs.Answers.{Answers};
 ghost use Rattle.cedar_written.specs.Reference.{parent};
@@ -10,11 +10,30 @@ ghost use Rattle.cedar_declared.specs.Targets.{action_at, found_action, parent_t
 
 use crate::all_defs::AllDefs;
 use crate::resolve::ResolveName;
-use cedar_data::{Dup, Failure, Mem, Out, Text};
+use cedar_data::{Boxed, Dup, Failure, Mem, Out, Text};
 use cedar_definitions::{ActionEntityUID, ConditionalName, ReferenceType, Step, type_or_action};
 use cedar_names::{Eid, EntityType, EntityUID, InternalName, Name, NonEmpty};
 use cedar_schema_error::{ActionNotDefinedError, SchemaError};
 use std::alloc::Global;
+
+/// A refusal on the heap, where it makes the answers of a walk no wider.
+fn boxed_refusal<T>(alloc: Global, error: SchemaError) -> Out<T, Boxed<SchemaError>>
+    ensures { Answers result (Err error) }
+{
+    let error = Boxed::new(alloc, error)?;
+    Err(Failure::Refused(error))
+}
+
+/// The same answer, its refusal taken from the heap.
+pub fn unboxed<T, E>(answer: Out<T, Boxed<E>>) -> Out<T, E>
+    ensures { result ≡ answer }
+{
+    match answer {
+        Ok(made) => Ok(made),
+        Err(Failure::Refused(error)) => Err(Failure::Refused(error.into_inner())),
+        Err(Failure::NoMemory) => Err(Failure::NoMemory),
+    }
+}
 
 /// The step that gives each reference the full name that it means among declared names.
 #[derive(Drop)]
@@ -26,19 +45,19 @@ pub struct Resolving<'a> {
 impl<'a> Step<ConditionalName> for Resolving<'a> {
     type Made = InternalName;
 
-    type Refusal = SchemaError;
+    type Refusal = Boxed<SchemaError>;
 
     ghost step = { λ s. resolving (names_of s.all_defs.now) };
 
     fn go(
         &self,
-        _alloc: Global,
+        alloc: Global,
         _kind: ReferenceType,
         name: ConditionalName,
-    ) -> Out<InternalName, SchemaError> {
+    ) -> Out<InternalName, Boxed<SchemaError>> {
         match name.resolve(self.all_defs) {
             Ok(name) => Ok(name),
-            Err(error) => Err(Failure::Refused(SchemaError::TypeNotDefined(error))),
+            Err(error) => boxed_refusal(alloc, SchemaError::TypeNotDefined(error)),
         }
     }
 
@@ -47,7 +66,7 @@ impl<'a> Step<ConditionalName> for Resolving<'a> {
         alloc: Global,
         id: &Text,
         ty: Option<ConditionalName>,
-    ) -> Out<InternalName, SchemaError>
+    ) -> Out<InternalName, Boxed<SchemaError>>
         ensures { Answers result (resolving (names_of self.now.all_defs.now) (parent id.now ty)) }
     {
         let ty = type_of_parent(alloc, ty)?;
@@ -56,7 +75,7 @@ impl<'a> Step<ConditionalName> for Resolving<'a> {
             Some(name) => Ok(name),
             None => {
                 let error = undeclared(alloc, id, ty)?;
-                Err(Failure::Refused(error))
+                boxed_refusal(alloc, error)
             }
         }
     }

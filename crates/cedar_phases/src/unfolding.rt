@@ -23,7 +23,7 @@ ghost use Rattle.cedar_written.specs.Answers.{all_values};
 ghost use Rattle.cedar_written.specs.Through.{through_type};
 
 use cedar_data::{Map, Out};
-use cedar_declared::{AllDefs, Resolving};
+use cedar_declared::{AllDefs, Resolving, unboxed};
 use cedar_names::{Extensions, InternalName};
 use cedar_schema_error::{ConditionalName, SchemaError, SchemaType, UsePlace, Walk};
 use cedar_types::Type;
@@ -60,8 +60,8 @@ pub(crate) fn full_types(
         ≡ Err e)) }
 {
     let step = Resolving { all_defs };
-    let common_types = common_types.walk(alloc, &step)?;
-    let uses = uses.walk(alloc, &step)?;
+    let common_types = unboxed(common_types.walk(alloc, &step))?;
+    let uses = unboxed(uses.walk(alloc, &step))?;
     Ok(FullTypes { common_types, uses })
 }
 
