@@ -31,7 +31,7 @@ use crate::node::TypeNode;
 use crate::steps::Steps;
 use crate::survey::survey_definitions;
 use crate::uses::unfolded_uses;
-use cedar_data::{Dup, Failure, Map, Mem, Out};
+use cedar_data::{Dup, Failure, Map, Mem, Out, dup_two};
 use cedar_names::{Extensions, InternalName};
 use cedar_schema_error::{
     CycleInCommonTypeReferencesError, DeepPlace, SchemaError, TooDeepError, UsePlace,
@@ -42,12 +42,19 @@ use std::alloc::Global;
 use std::sync::ledger::Ledger;
 
 /// What the common types and the uses unfold to.
-#[derive(Drop)]
+#[derive(Debug, Drop)]
 pub struct Unfolded {
     /// By the names of the common types.
     pub common: Map<InternalName, Type>,
     /// By the places of use.
     pub uses: Map<UsePlace, Type>,
+}
+
+impl Dup for Unfolded {
+    fn dup(&self, alloc: Global) -> Mem<Unfolded> {
+        let (common, uses) = dup_two(alloc, &self.common, &self.uses)?;
+        Ok(Unfolded { common, uses })
+    }
 }
 
 /// What the common types `defs` and the uses unfold to, with `extensions` for the extension types. All names are full

@@ -5,7 +5,7 @@ use cedar_names::{InternalName, UnreservedId};
 use std::sync::ledger::Ledger;
 
 /// The head of a written type, with what stands in it lent. All names are full names.
-#[derive(Drop)]
+#[derive(Debug, Drop)]
 pub enum Looked<'a, T> {
     /// True or false.
     Bool,
