@@ -6,7 +6,7 @@ use Rattle.cedar_data.specs.Answers.{IfRefused}
 use Rattle.cedar_data.specs.declared.memory.Failure.{Failure}
 use Rattle.cedar_data.specs.declared.memory.Failure.TheVariants.{Refused, NoMemory}
 use Rattle.cedar_listing.specs.Listing.{listing}
-use Rattle.cedar_schema_json.specs.SchemaViews.{IsNamed, schema_in}
+use Rattle.cedar_schema_json.specs.SchemaViews.{IsConsistent, schema_in}
 use Rattle.cedar_resolved.specs.declared.schema.ValidatorSchema.{ValidatorSchema}
 use Rattle.cedar_schema_json.specs.Texts.{DenotesSchema, TextCause}
 use Rattle.cedar_schema_errors.specs.declared.schema_error.CedarSchemaError.{CedarSchemaError}
@@ -22,10 +22,10 @@ module _ (text : List ℕ) (extensions : List (List ℕ)) where
 
   -- an answer holds a schema and warnings
   module _ {T : Type 0} (schema_of : T → ValidatorSchema) (warnings_of : T → List SchemaWarning) (write : ValidatorSchema → List SchemaWarning → List ℕ) where
-    pub schema-due : (made : Result T (Failure CedarSchemaError)) → IfOk made (λ m. DenotesSchema text extensions (schema_in (schema_of m)) (warnings_of m)) → IfOk made (λ m. IsNamed (schema_of m))
+    pub schema-due : (made : Result T (Failure CedarSchemaError)) → IfOk made (λ m. DenotesSchema text extensions (schema_in (schema_of m)) (warnings_of m)) → IfOk made (λ m. IsConsistent (schema_of m))
         → IfOk made (λ m. IsWritten write (write (schema_of m) (warnings_of m)))
-    schema-due (Ok m) denotes named = (schema_of m, warnings_of m, record { denotes = denotes; named = named }, refl)
-    schema-due (Err e) denotes named = tt
+    schema-due (Ok m) denotes consistent = (schema_of m, warnings_of m, record { denotes = denotes; consistent = consistent }, refl)
+    schema-due (Err e) denotes consistent = tt
 
   pub schema-told : {T : Type 0} (made : Result T (Failure CedarSchemaError)) → IfRefused made (TextCause text extensions) → IfRefused made (λ e. TellsSchema text extensions (refusal_text e))
   schema-told (Ok m) cause = tt

@@ -19,7 +19,7 @@ use Rattle.cedar_json_fault.specs.declared.json_error.JsonDeserializationError.{
 use Rattle.cedar_json_write.specs.Written.{fragment_json}
 use Rattle.cedar_listing.specs.Counts.{counts}
 use Rattle.cedar_listing.specs.Listing.{listing}
-use Rattle.cedar_schema_json.specs.SchemaViews.{IsNamed, schema_in}
+use Rattle.cedar_schema_json.specs.SchemaViews.{IsConsistent, schema_in}
 use Rattle.cedar_print.specs.Pieces.{text_of}
 use Rattle.cedar_resolved.specs.declared.schema.ValidatorSchema.{ValidatorSchema}
 use Rattle.cedar_schema_json.specs.Texts.{DenotesSchema, IsWellFormed, ParsingCause, TextCause}
@@ -37,16 +37,16 @@ use Rattle.cedar_reviews.specs.RawNames.{raw_text}
 
 -- ---- what a text denotes or declares
 
--- with these extension types the text is well formed and denotes this schema, whose entity types and actions stand under their own
--- names, with these warnings
+-- with these extension types the text is well formed and denotes this schema, which is consistent, with
+-- these warnings
 pub record IsSchemaOf (text : List ℕ) (extensions : List (List ℕ)) (schema : ValidatorSchema) (warnings : List SchemaWarning) : Type 0 where
   pub denotes : DenotesSchema text extensions (schema_in schema) warnings
-  pub named : IsNamed schema
+  pub consistent : IsConsistent schema
 
 -- the same of a text in JSON, which has no warnings
 pub record IsJsonSchemaOf (text : List ℕ) (extensions : List (List ℕ)) (schema : ValidatorSchema) : Type 0 where
   pub denotes : json.DenotesSchema (IsFragmentText text) extensions (schema_in schema)
-  pub named : IsNamed schema
+  pub consistent : IsConsistent schema
 
 -- a fragment of a text in JSON that can be written in the human syntax
 pub record CanBePrinted (text : List ℕ) (F : Fragment RawName over_raw) : Type 0 where

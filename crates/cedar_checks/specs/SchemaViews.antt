@@ -7,7 +7,7 @@ use Rattle.cedar_names.specs.Names.{entity_words}
 use Rattle.cedar_names.specs.declared.entity_uid.EntityUID.{EntityUID}
 use Rattle.cedar_names.specs.declared.name.EntityType.{EntityType}
 use Rattle.cedar_resolved.specs.Kinds.{standard_open, standard_tags}
-use Rattle.cedar_resolved.specs.Schemas.{action_attribute_types, action_attributes, action_context, action_descendants, action_name, action_principals, action_resources, action_types, type_attributes, type_name, types}
+use Rattle.cedar_resolved.specs.Schemas.{action_attribute_types, action_attributes, action_context, action_descendants, action_name, action_principals, action_resources, action_types, no_attributes, type_attributes, type_name, types}
 use Rattle.cedar_resolved.specs.declared.action.ValidatorActionId.{ValidatorActionId}
 use Rattle.cedar_resolved.specs.declared.entity_type.ValidatorEntityType.{ValidatorEntityType}
 use Rattle.cedar_resolved.specs.declared.kind.ValidatorEntityTypeKind.{ValidatorEntityTypeKind}
@@ -56,7 +56,13 @@ schema_in S = record { entity_types = map entity_in (types S); actions = map act
 abbrev pub types_of : ValidatorSchema → List (EntityType × ValidatorEntityType)
 types_of S = types S
 
--- each entity type and each action stands under its own name
-pub record IsNamed (S : ValidatorSchema) : Type 0 where
+-- a type that lists its entities has no attributes
+abbrev pub FitsKind : Attributes → ValidatorEntityTypeKind → Type 0
+FitsKind attributes (Standard s) = Unit {0}
+FitsKind attributes (Enum ids) = attributes ≡ no_attributes
+
+-- each entity type and each action stands under its own name, and an entity type that lists its entities has no attributes
+pub record IsConsistent (S : ValidatorSchema) : Type 0 where
   pub entity_types : AllPass (λ e. type_name e.1 ≡ e.0) (types S)
+  pub attributes : AllPass (λ e. FitsKind (type_attributes e.1) e.1.kind) (types S)
   pub actions : AllPass (λ a. action_name a.1 ≡ a.0) (action_types S)

@@ -14,11 +14,11 @@ use Rattle.cedar_names.specs.declared.internal_name.InternalName.{InternalName}
 use Rattle.cedar_names.specs.declared.name.EntityType.{EntityType}
 use Rattle.cedar_phases.specs.Holding.{HoldsUnfolded}
 use Rattle.cedar_phases.specs.NotDeclared.{AreNotDeclared, other_targets}
-use Rattle.cedar_checks.specs.SchemaViews.{IsNamed, action_in, schema_in, types_of}
+use Rattle.cedar_checks.specs.SchemaViews.{IsConsistent, action_in, schema_in, types_of}
 use Rattle.cedar_phases.proofs.Agreeing.{same_action_target}
 use Rattle.cedar_phases.proofs.Composing.{least_there}
 use Rattle.cedar_phases.proofs.Descending.{action_descends_back, action_descends_there}
-use Rattle.cedar_phases.proofs.Making.{actions_denoted, actions_named, entities_denoted, types_named}
+use Rattle.cedar_phases.proofs.Making.{actions_denoted, actions_named, entities_denoted, types_fit, types_named}
 use Rattle.cedar_phases.proofs.Undeclaring.{undeclared_passes, undeclared_refuses}
 use Rattle.cedar_phases.proofs.UnfoldedWorld.{uses_pass}
 use Rattle.cedar_resolved.specs.Schemas.{action_name, action_types}
@@ -81,10 +81,11 @@ module _ (W : World) (all_defs : AllDefs) (full : List (InternalName × SchemaTy
         (applications_free (names W) (all_namespaces W) h.references.1.1.0) made acts_zip);
   }
 
--- each stands under its name
-pub named : (all_defs : AllDefs) (used : List (UsePlace × ResolvedType)) (types : List (EntityType × EntityOutline)) (acts : List (EntityUID × ActionOutline)) (S : ValidatorSchema) (made : List (EntityUID × ValidatorActionId))
-    → AllZip (MakesEntity (names_of all_defs) (map entity_outline_in types) used) types (types_of S) → AllZip (MakesAction (names_of all_defs) (map action_outline_in acts) used) acts made → action_types S ≡ made → IsNamed S
-named all_defs used types acts S made zip acts_zip is = record {
+-- each stands under its name, and fits its kind
+pub consistent : (all_defs : AllDefs) (used : List (UsePlace × ResolvedType)) (types : List (EntityType × EntityOutline)) (acts : List (EntityUID × ActionOutline)) (S : ValidatorSchema) (made : List (EntityUID × ValidatorActionId))
+    → AllZip (MakesEntity (names_of all_defs) (map entity_outline_in types) used) types (types_of S) → AllZip (MakesAction (names_of all_defs) (map action_outline_in acts) used) acts made → action_types S ≡ made → IsConsistent S
+consistent all_defs used types acts S made zip acts_zip is = record {
   entity_types = types_named (names_of all_defs) (map entity_outline_in types) used types (types_of S) zip;
+  attributes = types_fit (names_of all_defs) (map entity_outline_in types) used types (types_of S) zip;
   actions = subst (λ (l : List (EntityUID × ValidatorActionId)). AllPass (λ a. action_name a.1 ≡ a.0) l) (sym is) (actions_named (names_of all_defs) (map action_outline_in acts) used acts made acts_zip);
 }

@@ -19,7 +19,7 @@ use Rattle.cedar_names.specs.declared.entity_uid.EntityUID.{EntityUID}
 use Rattle.cedar_names.specs.declared.extensions.Extensions.{Extensions}
 use Rattle.cedar_names.specs.declared.name.EntityType.{EntityType}
 use Rattle.cedar_phases.specs.Holding.{Definition, Holds}
-use Rattle.cedar_checks.specs.SchemaViews.{action_in, entity_in, kind_of}
+use Rattle.cedar_checks.specs.SchemaViews.{FitsKind, action_in, entity_in, kind_of}
 use Rattle.cedar_phases.proofs.Agreeing.{same_action_target, same_target}
 use Rattle.cedar_phases.proofs.Chained.{set_there, zip_through}
 use Rattle.cedar_phases.proofs.Contained.{and_both, and_left, of_contained}
@@ -187,6 +187,20 @@ types_named declared os used [] [] z = tt
 types_named declared os used [] (m ∷ made) z = absurd z
 types_named declared os used (t ∷ types) [] z = absurd z
 types_named declared os used (t ∷ types) (m ∷ made) z = (z.0.described.named ∙ sym z.0.described.key, types_named declared os used types made z.1)
+
+-- each fits its kind
+fits_kind : (used : Uses) (name : EntityType) (choices : Option (NonEmpty (List ℕ))) (attributes : Attributes) (kind : ValidatorEntityTypeKind)
+    → attributes ≡ entity_attributes used name choices → kind ≡ entity_kind used name choices → FitsKind attributes kind
+fits_kind used name None attributes kind as' ks = subst (FitsKind attributes) (sym ks) tt
+fits_kind used name (Some ids) attributes kind as' ks = subst (FitsKind attributes) (sym ks) as'
+
+pub types_fit : (declared : Names) (os : List (FullName × EntityParts)) (used : Uses) (types : List (EntityType × EntityOutline)) (made : List (EntityType × ValidatorEntityType))
+    → AllZip (MakesEntity declared os used) types made → AllPass (λ e. FitsKind (type_attributes e.1) e.1.kind) made
+types_fit declared os used [] [] z = tt
+types_fit declared os used [] (m ∷ made) z = absurd z
+types_fit declared os used (t ∷ types) [] z = absurd z
+types_fit declared os used (t ∷ types) (m ∷ made) z =
+    (fits_kind used t.0 t.1.choices (type_attributes m.1) m.1.kind z.0.described.attributes z.0.described.kind, types_fit declared os used types made z.1)
 
 pub actions_named : (declared : Names) (os : List (Uid × ActionParts)) (used : Uses) (acts : List (EntityUID × ActionOutline)) (made : List (EntityUID × ValidatorActionId)) → AllZip (MakesAction declared os used) acts made → AllPass (λ a. action_name a.1 ≡ a.0) made
 actions_named declared os used [] [] z = tt

@@ -3,7 +3,7 @@ ghost use Rattle.std.specs.Prelude.{◌++◌, IfOk, List};
 ghost use Rattle.cedar_data.specs.Answers.{IfRefused};
 ghost use Rattle.cedar_declared.specs.of_definitions.Structures.{definitions_of};
 ghost use Rattle.cedar_phases.specs.Holding.{AllPassed, AreTables, Definition, Holds, OneRefuses, early_phases, later_phases, world_of};
-ghost use Rattle.cedar_checks.specs.SchemaViews.{IsNamed, schema_in};
+ghost use Rattle.cedar_checks.specs.SchemaViews.{IsConsistent, schema_in};
 ghost use Rattle.cedar_schema_error.specs.Told.{told};
 ghost use Rattle.cedar_sound.specs.Sound.{Cause, Passes, References, Sound};
 ghost use Rattle.cedar_qualified.specs.of_world.Denotes.{Denotes};
@@ -49,7 +49,7 @@ fn resolve_tables(
     ensures denotes { IfOk result (λ S. (W : World) (ds : List Definition)
         → Holds W all_defs.now ds extensions.now → AreTables W tables → Passes W References
         → Denotes W (schema_in S)) }
-    ensures named { IfOk result IsNamed }
+    ensures consistent { IfOk result IsConsistent }
     ensures refused { IfRefused result (λ e. (W : World) (ds : List Definition)
         → Holds W all_defs.now ds extensions.now → AreTables W tables → Passes W References
         → OneRefuses W later_phases (told e)) }
@@ -79,7 +79,7 @@ fn resolve_checked(
     ensures denotes { IfOk result (λ S. (W : World)
         → Holds W all_defs.now (definitions_of definitions) extensions.now → Passes W References
         → Denotes W (schema_in S)) }
-    ensures named { IfOk result IsNamed }
+    ensures consistent { IfOk result IsConsistent }
     ensures refused { IfRefused result (λ e. (W : World)
         → Holds W all_defs.now (definitions_of definitions) extensions.now → Passes W References
         → OneRefuses W later_phases (told e)) }
@@ -103,7 +103,7 @@ fn resolve_declarations(
     ensures denotes { IfOk result (λ S. (W : World)
         → Holds W declarations.all_defs (definitions_of declarations.definitions) extensions.now
         → Denotes W (schema_in S)) }
-    ensures named { IfOk result IsNamed }
+    ensures consistent { IfOk result IsConsistent }
     ensures refused { IfRefused result (λ e. (W : World)
         → Holds W declarations.all_defs (definitions_of declarations.definitions) extensions.now
         → OneRefuses W (early_phases ++ later_phases) (told e)) }
@@ -127,7 +127,7 @@ impl FromSchemaFragments for ValidatorSchema {
         ensures sound { IfOk result (λ _. Sound (world_of fragments.items extensions.now)) }
         ensures denotes { IfOk result
             (λ S. Denotes (world_of fragments.items extensions.now) (schema_in S)) }
-        ensures named { IfOk result IsNamed }
+        ensures consistent { IfOk result IsConsistent }
         ensures refused { IfRefused result
             (λ e. Cause (world_of fragments.items extensions.now) (told e)) }
     {

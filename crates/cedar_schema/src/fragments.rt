@@ -8,7 +8,7 @@ ghost use Rattle.cedar_fragment_world.specs.FragmentFaults.{fragment_faults};
 ghost use Rattle.cedar_fragment_world.specs.FragmentWorlds.{namespaces_of, world_of_fragment};
 ghost use Rattle.cedar_names.specs.Extensions.{extension_words};
 ghost use Rattle.cedar_phases.specs.Holding.{world_of};
-ghost use Rattle.cedar_phases.specs.SchemaViews.{IsNamed, schema_in};
+ghost use Rattle.cedar_phases.specs.SchemaViews.{IsConsistent, schema_in};
 ghost use Rattle.cedar_schema.specs.Fragments.{FragmentCause, SoundFragment, all_extensions, unnamed};
 ghost use Rattle.cedar_schema_error.specs.Told.{told};
 ghost use Rattle.cedar_schema_error.specs.declared.action_behavior.ActionBehavior.TheVariants.{ProhibitAttributes};
@@ -103,7 +103,7 @@ impl FromFragment for ValidatorSchema {
         ensures denotes { IfOk result (λ schema.
             Denotes (world_of_fragment (fragment_seen fragment) all_extensions)
             (schema_in schema)) }
-        ensures named { IfOk result IsNamed }
+        ensures consistent { IfOk result IsConsistent }
         ensures refused { IfRefused result (λ e.
             FragmentCause ProhibitAttributes all_extensions (fragment_seen fragment) (told e)) }
     {
@@ -121,7 +121,7 @@ impl FromFragment for ValidatorSchema {
         ensures denotes { IfOk result (λ schema.
             Denotes (world_of_fragment (fragment_seen fragment) (extension_words extensions.now))
             (schema_in schema)) }
-        ensures named { IfOk result IsNamed }
+        ensures consistent { IfOk result IsConsistent }
         ensures refused { IfRefused result (λ e. FragmentCause ProhibitAttributes
             (extension_words extensions.now) (fragment_seen fragment) (told e)) }
     {
@@ -142,7 +142,7 @@ impl FromFragment for ValidatorSchema {
         ensures denotes { IfOk result (λ schema.
             Denotes (world_of_fragment (unnamed (definition_seen namespace_def)) all_extensions)
             (schema_in schema)) }
-        ensures named { IfOk result IsNamed }
+        ensures consistent { IfOk result IsConsistent }
         ensures refused { IfRefused result (λ e. FragmentCause ProhibitAttributes all_extensions
             (unnamed (definition_seen namespace_def)) (told e)) }
     {

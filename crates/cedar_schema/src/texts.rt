@@ -7,7 +7,7 @@ ghost use Rattle.cedar_schema_errors.specs.of_convert_warnings.declared.warnings
 ghost use Rattle.cedar_data.specs.Answers.{Accepts, IfRefused};
 ghost use Rattle.cedar_fragment_world.specs.FragmentWorlds.{world_of_fragment};
 ghost use Rattle.cedar_names.specs.Extensions.{extension_words};
-ghost use Rattle.cedar_phases.specs.SchemaViews.{IsNamed, schema_in};
+ghost use Rattle.cedar_phases.specs.SchemaViews.{IsConsistent, schema_in};
 ghost use Rattle.cedar_schema.specs.Fragments.{SoundFragment, all_extensions};
 ghost use Rattle.cedar_schema.specs.Texts.{DenotesSchema, IsWellFormed, ParsingCause, SchemaCause, TextCause};
 ghost use Rattle.cedar_schema_error.specs.declared.action_behavior.ActionBehavior.TheVariants.{ProhibitAttributes};
@@ -85,7 +85,7 @@ fn with_schema(
         Denotes (world_of_fragment (fragment_seen declared.0) (extension_words extensions.now))
         (schema_in made.0)) }
     ensures warnings { IfOk result (λ made. made.1.items ≡ declared.1.items) }
-    ensures named { IfOk result (λ made. IsNamed made.0) }
+    ensures consistent { IfOk result (λ made. IsConsistent made.0) }
     ensures refused { IfRefused result
         (SchemaCause (extension_words extensions.now) (fragment_seen declared.0)) }
 {
@@ -106,7 +106,7 @@ impl FromCedarSchema for ValidatorSchema {
         ensures denotes { IfOk result (λ made.
             DenotesSchema src.now (extension_words extensions.now)
             (schema_in made.0) made.1.items) }
-        ensures named { IfOk result (λ made. IsNamed made.0) }
+        ensures consistent { IfOk result (λ made. IsConsistent made.0) }
         ensures refused { IfRefused result (TextCause src.now (extension_words extensions.now)) }
         ensures accepts { (F : Declared) (warned : List Warning)
             → IsWellFormed src.now (extension_words extensions.now) F warned
@@ -122,7 +122,7 @@ impl FromCedarSchema for ValidatorSchema {
     fn parse(alloc: Global, src: &str) -> Out<ValidatorSchema, CedarSchemaError>
         ensures denotes { IfOk result (λ schema. (warned : List Warning)
             × DenotesSchema src.now all_extensions (schema_in schema) warned) }
-        ensures named { IfOk result IsNamed }
+        ensures consistent { IfOk result IsConsistent }
         ensures refused { IfRefused result (TextCause src.now all_extensions) }
         ensures accepts { (F : Declared) (warned : List Warning)
             → IsWellFormed src.now all_extensions F warned

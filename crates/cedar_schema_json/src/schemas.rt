@@ -9,7 +9,7 @@ ghost use Rattle.cedar_schema.specs.of_fragment_world.FragmentWorlds.{world_of_f
 ghost use Rattle.cedar_json.specs.TextFaults.{IsFragmentText, advised_fault};
 ghost use Rattle.cedar_json_laws.specs.of_json_namespaces.Namespaces.{IsFragment, fragment_fault};
 ghost use Rattle.cedar_names.specs.Extensions.{extension_words};
-ghost use Rattle.cedar_schema.specs.SchemaViews.{IsNamed, schema_in};
+ghost use Rattle.cedar_schema.specs.SchemaViews.{IsConsistent, schema_in};
 ghost use Rattle.cedar_schema_json.specs.JsonSchemas.{DenotesSchema, IsWellFormed, JsonCause, unread};
 ghost use Rattle.cedar_schema.specs.of_world.Denotes.{Denotes};
 ghost use Rattle.cedar_written.specs.declared.raw_name.RawName.{RawName as Raw};
@@ -59,7 +59,7 @@ impl SchemaJson for ValidatorSchema {
         ensures denotes { IfOk result
             (λ schema. DenotesSchema (IsFragment (view json.now)) (extension_words extensions.now)
             (schema_in schema)) }
-        ensures named { IfOk result IsNamed }
+        ensures consistent { IfOk result IsConsistent }
         ensures refused { IfRefused result
             (JsonCause (IsFragment (view json.now)) (fragment_fault (view json.now))
             (extension_words extensions.now)) }
@@ -84,7 +84,7 @@ impl SchemaJson for ValidatorSchema {
         ensures denotes { IfOk result
             (λ schema. DenotesSchema (IsFragmentText json.now) (extension_words extensions.now)
             (schema_in schema)) }
-        ensures named { IfOk result IsNamed }
+        ensures consistent { IfOk result IsConsistent }
         ensures refused { IfRefused result
             (JsonCause (IsFragmentText json.now) (advised_fault json.now)
             (extension_words extensions.now)) }

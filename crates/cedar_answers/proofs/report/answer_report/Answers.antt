@@ -20,7 +20,7 @@ pub returns-clause-answers : goal.returns-clause-answers
 returns-clause-answers g c =
     made-answers g.K.Sink.written g.K.Sink.faults g.E.Sink.written g.E.Sink.faults c.args.out.now c.report_made-status.new.out c.args.err.now c.report_made-status.new.err c.report_made-status.result
     {T = Made} (λ made. report_text c.args.report made.0 made.1.items) refusal_text (MakesReport c.args.report c.args.text.now (extension_words c.args.extensions.now)) (TellsSchema c.args.text.now (extension_words c.args.extensions.now)) c.from_cedarschema_str-made.result
-    (schema-due c.args.text.now (extension_words c.args.extensions.now) {T = Made} (λ made. made.0) (λ made. made.1.items) (report_text c.args.report) c.from_cedarschema_str-made.result c.from_cedarschema_str-made.ensures.denotes c.from_cedarschema_str-made.ensures.named)
+    (schema-due c.args.text.now (extension_words c.args.extensions.now) {T = Made} (λ made. made.0) (λ made. made.1.items) (report_text c.args.report) c.from_cedarschema_str-made.result c.from_cedarschema_str-made.ensures.denotes c.from_cedarschema_str-made.ensures.consistent)
     (schema-told c.args.text.now (extension_words c.args.extensions.now) {T = Made} c.from_cedarschema_str-made.result c.from_cedarschema_str-made.ensures.refused)
     c.report_made-status.ensures
 

@@ -10,8 +10,8 @@ use Rattle.cedar_declared.specs.Held.{names_of}
 use Rattle.cedar_hierarchy.specs.Made.{MakesEntity}
 use Rattle.cedar_hierarchy.specs.Outlined.{ActionOutlineDescends}
 use Rattle.cedar_phases.specs.Holding.{AllPassed, HoldsUnfolded, OneRefuses, last_phases}
-use Rattle.cedar_checks.specs.SchemaViews.{IsNamed, schema_in, types_of}
-use Rattle.cedar_phases.proofs.Assembled.{all_are_declared, cycle_told, denoted, named, no_cycles, undeclared_told}
+use Rattle.cedar_checks.specs.SchemaViews.{IsConsistent, schema_in, types_of}
+use Rattle.cedar_phases.proofs.Assembled.{all_are_declared, consistent, cycle_told, denoted, no_cycles, undeclared_told}
 use Rattle.cedar_phases.proofs.Carried.{carried_text, passed, passed_both, refused}
 use Rattle.cedar_phases.proofs.assembling.assemble.Goals as goal
 use Rattle.cedar_resolved.specs.Schemas.{action_types}
@@ -33,10 +33,10 @@ returns-in-Ok-clause-denotes c =
     passed_both (λ S. AllZip (MakesEntity (names_of c.args.all_defs.now) (map entity_outline_in c.args.entity_types) c.args.types.uses) c.args.entity_types (types_of S)) (λ S. action_types S ≡ c.in-Ok.actions) (λ S. (W : World) → HoldsUnfolded W c.args.all_defs.now c.args.types.full.common_types c.args.types.full.uses c.args.types.uses c.args.entity_types c.args.actions → Denotes W (schema_in S))
     (λ S zip is W h. denoted W c.args.all_defs.now c.args.types.full.common_types c.args.types.full.uses c.args.types.uses c.args.entity_types c.args.actions h S c.in-Ok.actions zip c.in-Ok.ensures.made is) c.finish.result c.finish.ensures.entity_types c.finish.ensures.actions
 
-pub returns-in-Ok-clause-named : goal.returns-in-Ok-clause-named
-returns-in-Ok-clause-named c =
-    passed_both (λ S. AllZip (MakesEntity (names_of c.args.all_defs.now) (map entity_outline_in c.args.entity_types) c.args.types.uses) c.args.entity_types (types_of S)) (λ S. action_types S ≡ c.in-Ok.actions) IsNamed
-    (λ S zip is. named c.args.all_defs.now c.args.types.uses c.args.entity_types c.args.actions S c.in-Ok.actions zip c.in-Ok.ensures.made is) c.finish.result c.finish.ensures.entity_types c.finish.ensures.actions
+pub returns-in-Ok-clause-consistent : goal.returns-in-Ok-clause-consistent
+returns-in-Ok-clause-consistent c =
+    passed_both (λ S. AllZip (MakesEntity (names_of c.args.all_defs.now) (map entity_outline_in c.args.entity_types) c.args.types.uses) c.args.entity_types (types_of S)) (λ S. action_types S ≡ c.in-Ok.actions) IsConsistent
+    (λ S zip is. consistent c.args.all_defs.now c.args.types.uses c.args.entity_types c.args.actions S c.in-Ok.actions zip c.in-Ok.ensures.made is) c.finish.result c.finish.ensures.entity_types c.finish.ensures.actions
 
 pub returns-in-Ok-clause-refused : goal.returns-in-Ok-clause-refused
 returns-in-Ok-clause-refused c =
