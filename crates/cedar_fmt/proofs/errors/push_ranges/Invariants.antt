@@ -7,5 +7,5 @@ use Rattle.cedar_fmt.proofs.errors.push_ranges.Given as goal
 
 -- the ranges of the names so far stand behind the others
 abbrev pub invariant-loop-name : goal.invariant-loop-name
-invariant-loop-name g l =
+invariant-loop-name l =
     l.spans.items ≡ l.initial.spans.items ++ flat_map (λ n. range (loc_of n)) (take l.name-index l.names)
