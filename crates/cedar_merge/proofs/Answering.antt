@@ -9,7 +9,7 @@ use Rattle.cedar_names.specs.Annotating.{annotation_entries}
 use Rattle.cedar_names.specs.declared.name.Name.{Name}
 use Rattle.cedar_merge.specs.Joining.{Holds, IsLeastOf, always, clash_error, clash_place, conflict_error, conflict_place, error_of, finished, last_some, look, there}
 use Rattle.cedar_merge.specs.Lookups.{Definition, Fragment, Path, Place, annotated, at, declared, declared_in, has_namespace, path_cmp, path_of, text_at}
-use Rattle.cedar_merge.specs.Merged.{IsClash, IsConflict, Merged, NoClash, NoConflict, NotePlace, differ, note_cmp, place_cmp, unlike}
+use Rattle.cedar_merge.specs.Merged.{IsClash, IsConflict, Merged, NoClash, NoConflict, NotePlace, StandsInOrder, differ, note_cmp, place_cmp, unlike}
 use Rattle.cedar_merge.specs.Pairs.{opposed, some_pair}
 use Rattle.cedar_merge.specs.Texts.{TellsClash, TellsConflict}
 use Rattle.cedar_merge.specs.declared.errors.DeclKind.{DeclKind}
@@ -179,17 +179,19 @@ module _ {L : List Fragment} {all : List (Option Name × Joined)} {found : Found
   unconflicting : (p : NotePlace) → some_pair differ (map (annotated (Some p.namespace) p.key) L) ≡ false
   unconflicting p = (subst (λ o. IsLeastOf note_cmp (λ p. some_pair differ (map (annotated (Some p.namespace) p.key) L)) (option_map conflict_place o)) no_conflict h.conflict) p
 
-  merged_of : Merged L (record { 0 = map_values finished all })
-  merged_of = record {
+  merged_of : StandsInOrder (record { 0 = map_values finished all }) → Merged L (record { 0 = map_values finished all })
+  merged_of in_order = record {
     namespaces = λ ns. there_seen (at path_cmp path_of (map_values finished all) ns) ∙ ap is_some (look-map_values there finished all ns ∙ h.namespaces ns) ∙ has_one L ns;
     declarations = λ p d. one_of always (λ a b e. absurd (cc)) (declared p) L _ d
         (look-map_values (declared_in p.kind p.name) finished all p.namespace ∙ same_declared p.kind p.name (at path_cmp path_of all p.namespace) ∙ h.declarations p) (unclashing p);
     annotations = λ ns key text. one_of unlike alike (annotated (Some ns) key) L _ text
         (look-map_values (λ d. text_at (annotation_entries d.annotations) key) finished all (Some ns) ∙ h.notes (record { namespace = ns; key = key })) (unconflicting (record { namespace = ns; key = key }));
     unnamed = λ key. look-map_values (λ d. text_at (annotation_entries d.annotations) key) finished all None ∙ h.unnamed key;
+    ordered = in_order;
   }
 
-pub merged : (L : List Fragment) (all : List (Option Name × Joined)) (found : Found) (f : Fragment) (o : Option MergeError) → Holds L all found → o ≡ error_of found → o ≡ None → f.0 ≡ map_values finished all → Merged L f
-merged L all found f o h told none is =
+pub merged : (L : List Fragment) (all : List (Option Name × Joined)) (found : Found) (f : Fragment) (o : Option MergeError) → Holds L all found → o ≡ error_of found → o ≡ None → f.0 ≡ map_values finished all → StandsInOrder f → Merged L f
+merged L all found f o h told none is in_order =
     let neither = nothing_found L all found h found.clash found.conflict refl refl (sym told ∙ none) in
-    subst (Merged L) (sym (λ i. record { 0 = is i })) (merged_of h neither.0 neither.1)
+    let same : f ≡ record { 0 = map_values finished all } = λ i. record { 0 = is i } in
+    subst (Merged L) (sym same) (merged_of h neither.0 neither.1 (subst StandsInOrder same in_order))

@@ -5,6 +5,7 @@ pub mod Holding
 pub mod Leasts
 pub mod Moves
 pub mod Namespaces
+pub mod Ordered
 pub mod Orders
 pub mod PairLaws
 pub mod Parts

@@ -5,12 +5,33 @@ use Rattle.std.specs.List.{list_any}
 use Rattle.std.specs.Ordering.{nat_cmp, ordering_then}
 use Rattle.std.specs.Str.{bytes_eq}
 use Rattle.std.specs.declared.cmp.Ordering.{Ordering}
-use Rattle.cedar_data.specs.Firsts.{IsLeast, SomePasses}
+use Rattle.cedar_data.specs.Firsts.{AllPass, IsLeast, SomePasses}
+use Rattle.cedar_data.specs.Maps.{IsSortedMap}
+use Rattle.cedar_names.specs.Annotating.{annotation_entries}
+use Rattle.cedar_names.specs.Identifiers.{any_word, unreserved_word}
 use Rattle.cedar_names.specs.Order.{word_cmp, words_cmp}
-use Rattle.cedar_merge.specs.Lookups.{Declaration, Fragment, Path, Place, annotated, declared, has_namespace, path_cmp}
+use Rattle.cedar_merge.specs.Lookups.{Declaration, Definition, Fragment, Path, Place, annotated, common_word, declared, has_namespace, path_cmp, path_of}
 use Rattle.cedar_merge.specs.Pairs.{opposed, some_pair}
 use Rattle.cedar_merge.specs.declared.errors.DeclKind.{DeclKind}
 use Rattle.cedar_merge.specs.declared.errors.DeclKind.TheVariants.{Common, Entity, Action}
+
+-- ---- order
+
+-- the words of the keys ascend strictly
+abbrev pub Ascends : {K V W : Type 0} → (W → W → Ordering) → (K → W) → List (K × V) → Type 0
+Ascends cmp words es = IsSortedMap (λ a b. cmp (words a) (words b)) es
+
+-- what a namespace declares stands in the order of its names, and its annotations in that of their keys
+pub record DeclaresInOrder (d : Definition) : Type 0 where
+  pub common_types : Ascends word_cmp common_word d.common_types
+  pub entity_types : Ascends word_cmp unreserved_word d.entity_types
+  pub actions : Ascends word_cmp (λ id. id) d.actions
+  pub annotations : Ascends word_cmp any_word (annotation_entries d.annotations)
+
+-- so do namespaces, and what each of them declares: nothing stands twice, and all that stands is found
+pub record StandsInOrder (F : Fragment) : Type 0 where
+  pub namespaces : Ascends path_cmp path_of F.0
+  pub definitions : AllPass (λ n. DeclaresInOrder n.1) F.0
 
 -- ---- the merged fragment
 
@@ -24,6 +45,8 @@ pub record Merged (L : List Fragment) (F : Fragment) : Type 0 where
   pub annotations : (ns : List (List ℕ)) (key text : List ℕ) → (annotated (Some ns) key F ≡ Some text) ↔ SomePasses (λ f. annotated (Some ns) key f ≡ Some text) L
   -- and the unnamed one has none
   pub unnamed : (key : List ℕ) → annotated None key F ≡ None
+  -- it stands in order, so that it has nothing else
+  pub ordered : StandsInOrder F
 
 -- two fragments say the same
 pub record SayTheSame (F G : Fragment) : Type 0 where

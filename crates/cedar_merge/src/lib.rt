@@ -8,8 +8,10 @@ mod joined;
 mod keys;
 mod laws;
 mod merging;
+mod ordering;
 mod places;
 
 pub use errors::{DeclKind, MergeError};
 pub use laws::orders_of_lists;
 pub use merging::merge;
+pub use ordering::fragment_in_order;

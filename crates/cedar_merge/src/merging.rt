@@ -9,6 +9,7 @@ ghost use Rattle.cedar_merge.specs.Texts.{TellsClash, TellsConflict};
 
 use crate::errors::MergeError;
 use crate::joined::{Found, Joined, join};
+use crate::ordering::fragment_in_order;
 use cedar_data::{Dup, Failure, Map, Mem, Out};
 use cedar_fragment::{Fragment, NamespaceDefinition, RawName};
 use cedar_names::Name;
@@ -31,6 +32,7 @@ pub fn merge(alloc: Global, fragments: Vec<Fragment<RawName>>) -> Out<Fragment<R
         Some(error) => Err(Failure::Refused(error)),
         None => {
             let merged = finish(alloc, all)?;
+            fragment_in_order(&merged);
             Ok(merged)
         }
     }

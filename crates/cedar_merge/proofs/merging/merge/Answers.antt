@@ -22,4 +22,4 @@ returns-in_ok-merged-in-None-clause-apart c =
 pub returns-in_ok-merged-in-None-clause-merged : goal.returns-in_ok-merged-in-None-clause-merged
 returns-in_ok-merged-in-None-clause-merged c =
     let held = c.in_ok-found.ensures [] (Holds-start _ _ c.new-all.ensures c.nothing-before.ensures.clash c.nothing-before.ensures.conflict) in
-    merged c.args.fragments.items _ c.in_ok-found.found c.in_ok-merged-in-None.merged c.told.result held c.told.ensures c.in-None.is c.in_ok-merged-in-None.ensures
+    merged c.args.fragments.items _ c.in_ok-found.found c.in_ok-merged-in-None.merged c.told.result held c.told.ensures c.in-None.is c.in_ok-merged-in-None.ensures c.fragment_in_order.ensures
