@@ -9,14 +9,14 @@ use Rattle.cedar_fmt.specs.Collisions.{collisions}
 use Rattle.cedar_fmt.specs.Texts.{kept_names}
 use Rattle.cedar_fmt.specs.declared.errors.ToCedarSchemaSyntaxError.{ToCedarSchemaSyntaxError}
 use Rattle.cedar_fmt.specs.declared.errors.ToCedarSchemaSyntaxError.TheVariants.{NameCollisions}
-use Rattle.cedar_merge.specs.Merged.{Merged, NoClash, NoConflict}
+use Rattle.cedar_merge.specs.Merged.{Merged}
 use Rattle.cedar_merge.specs.Texts.{note_told, place_told}
 use Rattle.cedar_merge.specs.declared.errors.MergeError.TheVariants.{AnnotationConflict, DuplicateDeclaration}
 use Rattle.cedar_schema.proofs.Declaring.{declared_or_not}
 use Rattle.cedar_schema_errors.specs.declared.schema_error.CedarSchemaError.TheVariants.{Parsing, Schema}
 use Rattle.cedar_reviews.proofs.Held.{held-or-told, one_value}
 use Rattle.cedar_reviews.specs.Holding.{TellsParsing}
-use Rattle.cedar_reviews.specs.Merging.{AreTexts, Declares, EachDeclares, Held, HoldsSchemas, IsMergeable, TellsMerging, TellsOther, TellsUndeclared, TellsUnlisted, TellsUnmerged, other_value, texts_in}
+use Rattle.cedar_reviews.specs.Merging.{Agree, AreTexts, Declares, EachDeclares, Held, HoldsSchemas, IsMergeable, TellsMerging, TellsOther, TellsUndeclared, TellsUnlisted, TellsUnmerged, other_value, texts_in}
 
 -- ---- what texts declare
 
@@ -38,12 +38,12 @@ some-collide F (NameCollisions e) kept none = let empty : kept_names (NameCollis
 
 -- fragments have nothing against each other, and what they declare together can be written
 abbrev Writable : List Held → Type 0
-Writable Fs = NoClash Fs × NoConflict Fs × ((F : Held) → Merged Fs F → collisions F ≡ [])
+Writable Fs = Agree Fs × ((F : Held) → Merged Fs F → collisions F ≡ [])
 
 writable-or-told : (Fs : List Held) (told : List ℕ) → Writable Fs → TellsUnmerged Fs told → ⊥
-writable-or-told Fs told writable (inl (DuplicateDeclaration kind ns name, clash, conflict, is)) = writable.0 (place_told kind ns name) clash.holds
-writable-or-told Fs told writable (inl (AnnotationConflict ns key, clash, conflict, is)) = writable.1 (note_told ns key) conflict.1.holds
-writable-or-told Fs told writable (inr (F, merged, (e, kept, is))) = some-collide F e kept (writable.2 F merged)
+writable-or-told Fs told writable (inl (DuplicateDeclaration kind ns name, clash, conflict, is)) = writable.0.0 (place_told kind ns name) clash.holds
+writable-or-told Fs told writable (inl (AnnotationConflict ns key, clash, conflict, is)) = writable.0.1 (note_told ns key) conflict.1.holds
+writable-or-told Fs told writable (inr (agree, (F, merged, (e, kept, is)))) = some-collide F e kept (writable.1 F merged)
 
 -- ---- lists of texts
 

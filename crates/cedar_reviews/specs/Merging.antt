@@ -74,17 +74,25 @@ TellsUndeclared extensions (t ∷ ts) told =
 
 -- ---- merging
 
+-- fragments have nothing against each other
+abbrev pub Agree : List Held → Type 0
+Agree Fs = NoClash Fs × NoConflict Fs
+
 -- the fragments declare together what is written in this text
 abbrev pub AreMergedAs : List Held → List ℕ → Type 0
-AreMergedAs Fs due = NoClash Fs × NoConflict Fs × ((F : Held) × Merged Fs F × IsPrintedAs F due)
+AreMergedAs Fs due = Agree Fs × ((F : Held) × Merged Fs F × IsPrintedAs F due)
 
 -- why fragments can't be merged
 abbrev pub TellsMerge : List Held → List ℕ → Type 0
 TellsMerge Fs told = (e : MergeError) × TellsClash Fs e × TellsConflict Fs e × (told ≡ error_line (error_text e))
 
+-- why what fragments declare together can't be written
+abbrev pub TellsCollided : List Held → List ℕ → Type 0
+TellsCollided Fs told = Agree Fs × ((F : Held) × Merged Fs F × TellsCollisionsOf F told)
+
 -- why fragments can't be merged, or what they declare can't be written
 abbrev pub TellsUnmerged : List Held → List ℕ → Type 0
-TellsUnmerged Fs told = TellsMerge Fs told ⊎ ((F : Held) × Merged Fs F × TellsCollisionsOf F told)
+TellsUnmerged Fs told = TellsMerge Fs told ⊎ TellsCollided Fs told
 
 -- ---- of a value
 
@@ -129,4 +137,4 @@ IsMergeable input extensions =
     (d : Data) × HoldsSchemas input d
     × ((ts : List (List ℕ)) × AreTexts d ts
     × (((Fs : List Held) × EachDeclares extensions ts Fs)
-    × ((Fs : List Held) → EachDeclares extensions ts Fs → NoClash Fs × NoConflict Fs × ((F : Held) → Merged Fs F → collisions F ≡ []))))
+    × ((Fs : List Held) → EachDeclares extensions ts Fs → Agree Fs × ((F : Held) → Merged Fs F → collisions F ≡ []))))
