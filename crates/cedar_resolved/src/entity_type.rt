@@ -107,7 +107,7 @@ impl ValidatorEntityType {
         &self.name
     }
 
-    /// The attributes that it was made with, whatever its `kind` is now. One made by `new_enum` has none.
+    /// The attributes of its entities, none where it lists them.
     pub fn attributes(&self) -> &Attributes
         ensures { result.now ≡ type_attributes self.now }
     {
