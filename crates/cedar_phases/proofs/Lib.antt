@@ -16,6 +16,7 @@ pub mod EntityReferences
 pub mod Making
 pub mod MembershipLists
 pub mod OtherTargets
+pub mod Placing
 pub mod Records
 pub mod Undeclaring
 pub mod UnfoldedWorld

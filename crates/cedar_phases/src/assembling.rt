@@ -6,6 +6,7 @@ ghost use Rattle.cedar_declared.specs.Held.{names_of};
 ghost use Rattle.cedar_hierarchy.specs.Made.{MakesEntity};
 ghost use Rattle.cedar_phases.specs.Holding.{AllPassed, HoldsUnfolded, OneRefuses, last_phases};
 ghost use Rattle.cedar_phases.specs.NotDeclared.{AreNotDeclared};
+ghost use Rattle.cedar_phases.specs.Places.{IsPlaced, places_outlined};
 ghost use Rattle.cedar_checks.specs.SchemaViews.{IsConsistent, schema_in, types_of};
 ghost use Rattle.cedar_names.specs.Components.{components};
 ghost use Rattle.cedar_resolved.specs.Schemas.{action_types};
@@ -105,6 +106,7 @@ pub(crate) fn assemble(
         → HoldsUnfolded W all_defs.now types.full.common_types types.full.uses
         types.uses entity_types actions → Denotes W (schema_in S)) }
     ensures consistent { IfOk result IsConsistent }
+    ensures placed { IfOk result (IsPlaced (places_outlined entity_types actions)) }
     ensures refused { IfRefused result (λ e. (W : World)
         → HoldsUnfolded W all_defs.now types.full.common_types types.full.uses
         types.uses entity_types actions → OneRefuses W last_phases (told e)) }

@@ -7,6 +7,7 @@ ghost use Rattle.cedar_declared.specs.Held.{names_of};
 ghost use Rattle.cedar_declared.specs.Names.{SameNames};
 ghost use Rattle.cedar_declared.specs.of_definitions.Structures.{definitions_of};
 ghost use Rattle.cedar_phases.specs.Holding.{Holds, world_of};
+ghost use Rattle.cedar_phases.specs.Places.{places_in};
 ghost use Rattle.cedar_schema_error.specs.Told.{told};
 ghost use Rattle.cedar_sound.specs.Sound.{Passes, RefusesAt, Shadowing};
 
@@ -74,9 +75,11 @@ fn declare_all(
 ) -> Mem<Declarations>
     requires { SameNames (names_of own)
         (declared_names (flat_map definitions_of fragments.items)) }
-    ensures { IfOk result
+    ensures holds { IfOk result
         (λ d. Holds (world_of fragments.items extensions.now) d.all_defs
         (definitions_of d.definitions) extensions.now) }
+    ensures places { IfOk result (λ d. places_in (definitions_of d.definitions)
+        ≡ places_in (flat_map definitions_of fragments.items)) }
 {
     let builtins = builtin_definitions(alloc, &own, extensions)?;
     let all_defs = own.with_fragment(&builtins)?;
@@ -100,6 +103,8 @@ fn declare_with(
     ensures holds { IfOk result
         (λ d. Holds (world_of fragments.items extensions.now) d.all_defs
         (definitions_of d.definitions) extensions.now) }
+    ensures places { IfOk result (λ d. places_in (definitions_of d.definitions)
+        ≡ places_in (flat_map definitions_of fragments.items)) }
     ensures refused { IfRefused result
         (λ e. RefusesAt (world_of fragments.items extensions.now) Shadowing (told e)) }
 {
@@ -123,6 +128,8 @@ pub(crate) fn declare(
     ensures holds { IfOk result
         (λ d. Holds (world_of fragments.items extensions.now) d.all_defs
         (definitions_of d.definitions) extensions.now) }
+    ensures places { IfOk result (λ d. places_in (definitions_of d.definitions)
+        ≡ places_in (flat_map definitions_of fragments.items)) }
     ensures refused { IfRefused result
         (λ e. RefusesAt (world_of fragments.items extensions.now) Shadowing (told e)) }
 {

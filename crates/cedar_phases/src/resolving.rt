@@ -1,8 +1,10 @@
 // SPDX-License-Identifier: Apache-2.0
 ghost use Rattle.std.specs.Prelude.{◌++◌, IfOk, List};
+ghost use Rattle.std.specs.List.{flat_map};
 ghost use Rattle.cedar_data.specs.Answers.{IfRefused};
 ghost use Rattle.cedar_declared.specs.of_definitions.Structures.{definitions_of};
 ghost use Rattle.cedar_phases.specs.Holding.{AllPassed, AreTables, Definition, Holds, OneRefuses, early_phases, later_phases, world_of};
+ghost use Rattle.cedar_phases.specs.Places.{IsPlaced, places_in, places_outlined};
 ghost use Rattle.cedar_checks.specs.SchemaViews.{IsConsistent, schema_in};
 ghost use Rattle.cedar_schema_error.specs.Told.{told};
 ghost use Rattle.cedar_sound.specs.Sound.{Cause, Passes, References, Sound};
@@ -27,7 +29,7 @@ pub trait FromSchemaFragments: Sized {
     /// The schema that the definitions of fragments denote, with `extensions` for the extension types. Refused with the
     /// first of what is wrong with them: a name that shadows another; references that mean nothing declared; a full name
     /// that is declared twice; types that don't unfold; an action that descends from itself; names that must be entity
-    /// types and are none.
+    /// types and are none. Each entity type and each action has the place of its declaration.
     fn from_schema_fragments(
         alloc: Global,
         fragments: Vec<ValidatorSchemaFragment<ConditionalName, ConditionalName>>,
@@ -50,6 +52,8 @@ fn resolve_tables(
         → Holds W all_defs.now ds extensions.now → AreTables W tables → Passes W References
         → Denotes W (schema_in S)) }
     ensures consistent { IfOk result IsConsistent }
+    ensures placed { IfOk result
+        (IsPlaced (places_outlined tables.entity_types tables.actions)) }
     ensures refused { IfRefused result (λ e. (W : World) (ds : List Definition)
         → Holds W all_defs.now ds extensions.now → AreTables W tables → Passes W References
         → OneRefuses W later_phases (told e)) }
@@ -80,6 +84,7 @@ fn resolve_checked(
         → Holds W all_defs.now (definitions_of definitions) extensions.now → Passes W References
         → Denotes W (schema_in S)) }
     ensures consistent { IfOk result IsConsistent }
+    ensures placed { IfOk result (IsPlaced (places_in (definitions_of definitions))) }
     ensures refused { IfRefused result (λ e. (W : World)
         → Holds W all_defs.now (definitions_of definitions) extensions.now → Passes W References
         → OneRefuses W later_phases (told e)) }
@@ -104,6 +109,8 @@ fn resolve_declarations(
         → Holds W declarations.all_defs (definitions_of declarations.definitions) extensions.now
         → Denotes W (schema_in S)) }
     ensures consistent { IfOk result IsConsistent }
+    ensures placed { IfOk result
+        (IsPlaced (places_in (definitions_of declarations.definitions))) }
     ensures refused { IfRefused result (λ e. (W : World)
         → Holds W declarations.all_defs (definitions_of declarations.definitions) extensions.now
         → OneRefuses W (early_phases ++ later_phases) (told e)) }
@@ -128,6 +135,8 @@ impl FromSchemaFragments for ValidatorSchema {
         ensures denotes { IfOk result
             (λ S. Denotes (world_of fragments.items extensions.now) (schema_in S)) }
         ensures consistent { IfOk result IsConsistent }
+        ensures placed { IfOk result
+            (IsPlaced (places_in (flat_map definitions_of fragments.items))) }
         ensures refused { IfRefused result
             (λ e. Cause (world_of fragments.items extensions.now) (told e)) }
     {

@@ -12,7 +12,9 @@ use Rattle.cedar_hierarchy.specs.Outlined.{ActionOutlineDescends}
 use Rattle.cedar_phases.specs.Holding.{AllPassed, HoldsUnfolded, OneRefuses, last_phases}
 use Rattle.cedar_checks.specs.SchemaViews.{IsConsistent, schema_in, types_of}
 use Rattle.cedar_phases.proofs.Assembled.{all_are_declared, consistent, cycle_told, denoted, no_cycles, undeclared_told}
+use Rattle.cedar_phases.specs.Places.{IsPlaced, places_outlined}
 use Rattle.cedar_phases.proofs.Carried.{carried_text, passed, passed_both, refused}
+use Rattle.cedar_phases.proofs.Placing.{placed}
 use Rattle.cedar_phases.proofs.assembling.assemble.Goals as goal
 use Rattle.cedar_resolved.specs.Schemas.{action_types}
 use Rattle.cedar_schema_error.specs.FullNames.{Uid, uid_cmp}
@@ -37,6 +39,11 @@ pub returns-in-Ok-clause-consistent : goal.returns-in-Ok-clause-consistent
 returns-in-Ok-clause-consistent c =
     passed_both (λ S. AllZip (MakesEntity (names_of c.args.all_defs.now) (map entity_outline_in c.args.entity_types) c.args.types.uses) c.args.entity_types (types_of S)) (λ S. action_types S ≡ c.in-Ok.actions) IsConsistent
     (λ S zip is. consistent c.args.all_defs.now c.args.types.uses c.args.entity_types c.args.actions S c.in-Ok.actions zip c.in-Ok.ensures.made is) c.finish.result c.finish.ensures.entity_types c.finish.ensures.actions
+
+pub returns-in-Ok-clause-placed : goal.returns-in-Ok-clause-placed
+returns-in-Ok-clause-placed c =
+    passed_both (λ S. AllZip (MakesEntity (names_of c.args.all_defs.now) (map entity_outline_in c.args.entity_types) c.args.types.uses) c.args.entity_types (types_of S)) (λ S. action_types S ≡ c.in-Ok.actions) (IsPlaced (places_outlined c.args.entity_types c.args.actions))
+    (λ S zip is. placed (names_of c.args.all_defs.now) c.args.types.uses c.args.entity_types c.args.actions (map entity_outline_in c.args.entity_types) (map action_outline_in c.args.actions) S c.in-Ok.actions zip c.in-Ok.ensures.made is) c.finish.result c.finish.ensures.entity_types c.finish.ensures.actions
 
 pub returns-in-Ok-clause-refused : goal.returns-in-Ok-clause-refused
 returns-in-Ok-clause-refused c =

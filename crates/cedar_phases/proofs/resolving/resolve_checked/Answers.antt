@@ -1,7 +1,8 @@
 -- SPDX-License-Identifier: Apache-2.0
-use Rattle.std.proofs.Common.{List}
+use Rattle.std.proofs.Common.{List, subst}
 use Rattle.cedar_declared.specs.of_definitions.Structures.{definitions_of}
 use Rattle.cedar_phases.specs.Holding.{AllPassed, AreTables, Definition, Holds, OneRefuses, later_phases}
+use Rattle.cedar_phases.specs.Places.{IsPlaced, places_in, places_outlined}
 use Rattle.cedar_checks.specs.SchemaViews.{schema_in}
 use Rattle.cedar_phases.proofs.Carried.{passed, refused}
 use Rattle.cedar_schema_error.specs.Told.{told}
@@ -9,6 +10,7 @@ use Rattle.cedar_sound.specs.Sound.{Passes, References}
 use Rattle.cedar_qualified.specs.of_world.Denotes.{Denotes}
 use Rattle.cedar_qualified.specs.of_world.Worlds.{World}
 use Rattle.cedar_phases.proofs.DeclaredTables.{tables_held}
+use Rattle.cedar_phases.proofs.Placing.{placed_there}
 use Rattle.cedar_phases.proofs.resolving.resolve_checked.Goals as goal
 
 pub returns-clause-passes : goal.returns-clause-passes
@@ -20,6 +22,12 @@ pub returns-clause-denotes : goal.returns-clause-denotes
 returns-clause-denotes c =
     passed (λ S. (W : World) (ds : List Definition) → Holds W c.args.all_defs.now ds c.args.extensions.now → AreTables W c.in_ok-tables.tables → Passes W References → Denotes W (schema_in S)) (λ S. (W : World) → Holds W c.args.all_defs.now (definitions_of c.args.definitions) c.args.extensions.now → Passes W References → Denotes W (schema_in S))
     (λ _ f W h p. f W (definitions_of c.args.definitions) h (tables_held W c.args.all_defs.now (definitions_of c.args.definitions) c.args.extensions.now h c.into_definitions.result.items c.into_definitions.ensures c.in_ok-tables.tables c.in_ok-tables.ensures.common_types c.in_ok-tables.ensures.uses c.in_ok-tables.ensures.entity_types c.in_ok-tables.ensures.actions) p) c.resolve_tables.result c.resolve_tables.ensures.denotes
+
+pub returns-clause-placed : goal.returns-clause-placed
+returns-clause-placed c =
+    passed (IsPlaced (places_outlined c.in_ok-tables.tables.entity_types c.in_ok-tables.tables.actions)) (IsPlaced (places_in (definitions_of c.args.definitions)))
+    (λ S placed. subst (λ ds. IsPlaced (places_in ds) S) c.into_definitions.ensures (placed_there c.into_definitions.result.items c.in_ok-tables.tables.entity_types c.in_ok-tables.tables.actions c.in_ok-tables.ensures.entity_places c.in_ok-tables.ensures.action_places S placed))
+    c.resolve_tables.result c.resolve_tables.ensures.placed
 
 pub returns-clause-refused : goal.returns-clause-refused
 returns-clause-refused c =

@@ -1,7 +1,8 @@
 -- SPDX-License-Identifier: Apache-2.0
-use Rattle.std.proofs.Common.{◌++◌}
+use Rattle.std.proofs.Common.{◌++◌, IfOk, subst}
 use Rattle.cedar_declared.specs.of_definitions.Structures.{definitions_of}
 use Rattle.cedar_phases.specs.Holding.{AllPassed, Holds, OneRefuses, early_phases, later_phases, world_of}
+use Rattle.cedar_phases.specs.Places.{IsPlaced}
 use Rattle.cedar_checks.specs.SchemaViews.{schema_in}
 use Rattle.cedar_phases.proofs.Carried.{carried, passed, passed_both, refused}
 use Rattle.cedar_phases.proofs.Composing.{cause_first, cause_later, sound_by}
@@ -22,6 +23,9 @@ pub returns-in-Ok-clause-denotes : goal.returns-in-Ok-clause-denotes
 returns-in-Ok-clause-denotes c =
     passed (λ S. (W : World) → Holds W c.in-Ok.declarations.all_defs (definitions_of c.in-Ok.declarations.definitions) c.args.extensions.now → Denotes W (schema_in S)) (λ S. Denotes (world_of c.args.fragments.items c.args.extensions.now) (schema_in S))
     (λ S f. f (world_of c.args.fragments.items c.args.extensions.now) c.in-Ok.ensures.holds) c.resolve_declarations.result c.resolve_declarations.ensures.denotes
+
+pub returns-in-Ok-clause-placed : goal.returns-in-Ok-clause-placed
+returns-in-Ok-clause-placed c = subst (λ places. IfOk c.resolve_declarations.result (IsPlaced places)) c.in-Ok.ensures.places c.resolve_declarations.ensures.placed
 
 pub returns-in-Ok-clause-refused : goal.returns-in-Ok-clause-refused
 returns-in-Ok-clause-refused c =
