@@ -10,6 +10,9 @@ use Rattle.cedar_data.specs.declared.memory.Failure.TheVariants.{Refused, NoMemo
 use Rattle.cedar_fragment_world.specs.FragmentWorlds.{world_of_fragment}
 use Rattle.cedar_schema.proofs.Declaring.{one_declared}
 use Rattle.cedar_schema.proofs.Refusing.{well_formed_or_refused}
+use Rattle.cedar_phases.specs.Places.{IsPlaced}
+use Rattle.cedar_phases.specs.of_resolved.declared.schema.ValidatorSchema.{ValidatorSchema}
+use Rattle.cedar_schema.specs.DeclaredPlaces.{IsPlacedBy, places_of}
 use Rattle.cedar_schema.specs.Fragments.{SoundFragment}
 use Rattle.cedar_schema.specs.Texts.{DenotesSchema, IsWellFormed, ParsingCause, SchemaCause, TextCause}
 use Rattle.cedar_schema_error.specs.declared.action_behavior.ActionBehavior.TheVariants.{ProhibitAttributes}
@@ -47,6 +50,12 @@ module _ {M : Type 0} (seen : M → schemas.Schema) (given : M → List SchemaWa
       (subst (λ G. Denotes (world_of_fragment G extensions) (seen made)) same.0 denotes.denotes, same.1)
   accepts_text (Err (Refused e)) denotes refused F warned well = well_formed_or_refused text extensions F warned e well refused
   accepts_text (Err NoMemory) denotes refused F warned well = tt
+
+-- what is placed by the fragment that a text declares is placed by the text
+pub placed_text : {M : Type 0} (schema : M → ValidatorSchema) (text : List ℕ) (extensions : List (List ℕ)) (F : Fragment) (warned : List SchemaWarning) → DeclaresText text extensions F warned
+    → (r : Result M (Failure CedarSchemaError)) → IfOk r (λ made. IsPlaced (places_of F) (schema made)) → IfOk r (λ made. IsPlacedBy text extensions (schema made))
+placed_text schema text extensions F warned declares (Ok made) placed = record { fragment = F; warnings = warned; declares = declares; placed = placed }
+placed_text schema text extensions F warned declares (Err e) placed = tt
 
 -- a text that declares no fragment is refused
 pub parsing_refused : (N M : Type 0) (text : List ℕ) (extensions : List (List ℕ)) (e : Failure CedarSchemaError) → IfRefused {T = N} (Err e) (ParsingCause text) → IfRefused {T = M} (Err e) (TextCause text extensions)

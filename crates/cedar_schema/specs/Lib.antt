@@ -5,7 +5,9 @@ pub mod of_namespace_definitions
 pub mod of_fragment_world
 pub mod of_convert_text
 pub mod of_convert_fragment
+pub use Rattle.cedar_phases.specs.Places
 pub use Rattle.cedar_phases.specs.SchemaViews
 pub use Rattle.cedar_data.specs.formers
 pub mod Fragments
+pub mod DeclaredPlaces
 pub mod Texts

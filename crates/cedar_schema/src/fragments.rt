@@ -1,14 +1,18 @@
 // SPDX-License-Identifier: Apache-2.0
 ghost use Rattle.std.specs.Prelude.{◌≡◌, [], map, IfOk};
+ghost use Rattle.std.specs.List.{flat_map};
 ghost use Rattle.cedar_fragment_world.specs.of_convert_fragment.Views.{definition_seen, fragment_seen};
 ghost use Rattle.cedar_data.specs.Answers.{IfRefused};
 ghost use Rattle.cedar_data.specs.Firsts.{IsFirst};
 ghost use Rattle.cedar_fragment_world.specs.of_definitions.Structures.{definitions_of};
 ghost use Rattle.cedar_fragment_world.specs.FragmentFaults.{fragment_faults};
 ghost use Rattle.cedar_fragment_world.specs.FragmentWorlds.{namespaces_of, world_of_fragment};
+ghost use Rattle.cedar_fragment_world.specs.of_namespace_definitions.Definitions.{AreDefinitionsOf};
 ghost use Rattle.cedar_names.specs.Extensions.{extension_words};
 ghost use Rattle.cedar_phases.specs.Holding.{world_of};
+ghost use Rattle.cedar_phases.specs.Places.{IsPlaced};
 ghost use Rattle.cedar_phases.specs.SchemaViews.{IsConsistent, schema_in};
+ghost use Rattle.cedar_schema.specs.DeclaredPlaces.{places_of};
 ghost use Rattle.cedar_schema.specs.Fragments.{FragmentCause, SoundFragment, all_extensions, unnamed};
 ghost use Rattle.cedar_schema_error.specs.Told.{told};
 ghost use Rattle.cedar_schema_error.specs.declared.action_behavior.ActionBehavior.TheVariants.{ProhibitAttributes};
@@ -26,7 +30,8 @@ use std::alloc::Global;
 /// What a fragment denotes, where actions may have no attributes.
 pub trait FromFragment: Sized {
     /// What the fragment denotes, with all extension types that there are. Refused with the first
-    /// fault of its definitions, or else with what is wrong with their world.
+    /// fault of its definitions, or else with what is wrong with their world. Each entity type and
+    /// each action has the place that the fragment has for it.
     fn from_fragment(alloc: Global, fragment: Fragment<RawName>) -> Out<Self, SchemaError>;
 
     /// The same with these extension types.
@@ -51,6 +56,8 @@ fn define(
 ) -> Out<ValidatorSchemaFragment<ConditionalName, ConditionalName>, SchemaError>
     ensures namespaces { IfOk result (λ made. map namespace_in (definitions_of made)
         ≡ namespaces_of (fragment_seen fragment)) }
+    ensures definitions { IfOk result (λ made.
+        AreDefinitionsOf fragment.0 (definitions_of made)) }
     ensures faultless { IfOk result (λ _.
         fragment_faults ProhibitAttributes (fragment_seen fragment) ≡ []) }
     ensures refused { IfRefused result (λ e.
@@ -72,6 +79,8 @@ fn define_alone(
 ) -> Out<Vec<ValidatorSchemaFragment<ConditionalName, ConditionalName>>, SchemaError>
     ensures world { IfOk result (λ made. world_of made.items extensions.now
         ≡ world_of_fragment (fragment_seen fragment) (extension_words extensions.now)) }
+    ensures definitions { IfOk result (λ made.
+        AreDefinitionsOf fragment.0 (flat_map definitions_of made.items)) }
     ensures faultless { IfOk result (λ _.
         fragment_faults ProhibitAttributes (fragment_seen fragment) ≡ []) }
     ensures refused { IfRefused result (λ e.
@@ -104,6 +113,7 @@ impl FromFragment for ValidatorSchema {
             Denotes (world_of_fragment (fragment_seen fragment) all_extensions)
             (schema_in schema)) }
         ensures consistent { IfOk result IsConsistent }
+        ensures placed { IfOk result (IsPlaced (places_of (fragment_seen fragment))) }
         ensures refused { IfRefused result (λ e.
             FragmentCause ProhibitAttributes all_extensions (fragment_seen fragment) (told e)) }
     {
@@ -122,6 +132,7 @@ impl FromFragment for ValidatorSchema {
             Denotes (world_of_fragment (fragment_seen fragment) (extension_words extensions.now))
             (schema_in schema)) }
         ensures consistent { IfOk result IsConsistent }
+        ensures placed { IfOk result (IsPlaced (places_of (fragment_seen fragment))) }
         ensures refused { IfRefused result (λ e. FragmentCause ProhibitAttributes
             (extension_words extensions.now) (fragment_seen fragment) (told e)) }
     {
@@ -143,6 +154,8 @@ impl FromFragment for ValidatorSchema {
             Denotes (world_of_fragment (unnamed (definition_seen namespace_def)) all_extensions)
             (schema_in schema)) }
         ensures consistent { IfOk result IsConsistent }
+        ensures placed { IfOk result
+            (IsPlaced (places_of (unnamed (definition_seen namespace_def)))) }
         ensures refused { IfRefused result (λ e. FragmentCause ProhibitAttributes all_extensions
             (unnamed (definition_seen namespace_def)) (told e)) }
     {

@@ -7,7 +7,9 @@ ghost use Rattle.cedar_schema_errors.specs.of_convert_warnings.declared.warnings
 ghost use Rattle.cedar_data.specs.Answers.{Accepts, IfRefused};
 ghost use Rattle.cedar_fragment_world.specs.FragmentWorlds.{world_of_fragment};
 ghost use Rattle.cedar_names.specs.Extensions.{extension_words};
+ghost use Rattle.cedar_phases.specs.Places.{IsPlaced};
 ghost use Rattle.cedar_phases.specs.SchemaViews.{IsConsistent, schema_in};
+ghost use Rattle.cedar_schema.specs.DeclaredPlaces.{IsPlacedBy, places_of};
 ghost use Rattle.cedar_schema.specs.Fragments.{SoundFragment, all_extensions};
 ghost use Rattle.cedar_schema.specs.Texts.{DenotesSchema, IsWellFormed, ParsingCause, SchemaCause, TextCause};
 ghost use Rattle.cedar_schema_error.specs.declared.action_behavior.ActionBehavior.TheVariants.{ProhibitAttributes};
@@ -36,7 +38,8 @@ pub trait FragmentText: Sized {
 /// What a text in the human syntax denotes.
 pub trait FromCedarSchema: Sized {
     /// What the text denotes with these extension types, and the warnings of its names. Refused
-    /// with why it declares nothing, or else with why what it declares is not sound.
+    /// with why it declares nothing, or else with why what it declares is not sound. Each entity
+    /// type and each action has the place of its declaration.
     fn from_cedarschema_str(
         alloc: Global,
         src: &str,
@@ -86,6 +89,8 @@ fn with_schema(
         (schema_in made.0)) }
     ensures warnings { IfOk result (λ made. made.1.items ≡ declared.1.items) }
     ensures consistent { IfOk result (λ made. IsConsistent made.0) }
+    ensures placed { IfOk result
+        (λ made. IsPlaced (places_of (fragment_seen declared.0)) made.0) }
     ensures refused { IfRefused result
         (SchemaCause (extension_words extensions.now) (fragment_seen declared.0)) }
 {
@@ -107,6 +112,8 @@ impl FromCedarSchema for ValidatorSchema {
             DenotesSchema src.now (extension_words extensions.now)
             (schema_in made.0) made.1.items) }
         ensures consistent { IfOk result (λ made. IsConsistent made.0) }
+        ensures placed { IfOk result (λ made.
+            IsPlacedBy src.now (extension_words extensions.now) made.0) }
         ensures refused { IfRefused result (TextCause src.now (extension_words extensions.now)) }
         ensures accepts { (F : Declared) (warned : List Warning)
             → IsWellFormed src.now (extension_words extensions.now) F warned
@@ -123,6 +130,7 @@ impl FromCedarSchema for ValidatorSchema {
         ensures denotes { IfOk result (λ schema. (warned : List Warning)
             × DenotesSchema src.now all_extensions (schema_in schema) warned) }
         ensures consistent { IfOk result IsConsistent }
+        ensures placed { IfOk result (IsPlacedBy src.now all_extensions) }
         ensures refused { IfRefused result (TextCause src.now all_extensions) }
         ensures accepts { (F : Declared) (warned : List Warning)
             → IsWellFormed src.now all_extensions F warned

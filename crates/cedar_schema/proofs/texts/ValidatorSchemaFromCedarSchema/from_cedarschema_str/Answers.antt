@@ -8,7 +8,7 @@ use Rattle.cedar_fragment_world.specs.FragmentWorlds.{world_of_fragment}
 use Rattle.cedar_names.specs.Extensions.{extension_words}
 use Rattle.cedar_phases.specs.SchemaViews.{schema_in}
 use Rattle.cedar_phases.specs.of_resolved.declared.schema.ValidatorSchema.{ValidatorSchema}
-use Rattle.cedar_schema.proofs.Composing.{accepts_text, denotes_text, parsing_refused, refused_accepts, refused_text}
+use Rattle.cedar_schema.proofs.Composing.{accepts_text, denotes_text, parsing_refused, placed_text, refused_accepts, refused_text}
 use Rattle.cedar_fragment_world.specs.of_world.Denotes.{Denotes}
 use Rattle.cedar_written.specs.declared.raw_name.RawName.{RawName}
 use Rattle.cedar_schema.proofs.texts.ValidatorSchemaFromCedarSchema.from_cedarschema_str.Goals as goal
@@ -28,6 +28,11 @@ returns-in-Ok-clause-accepts c =
     accepts_text {M = Made} (λ made. schema_in made.0) (λ made. made.1.items) c.args.src.now extensions c.with_schema.result
     (denotes_text {M = Made} (λ made. schema_in made.0) (λ made. made.1.items) c.args.src.now extensions f warned c.in-Ok.ensures.declares c.with_schema.result c.with_schema.ensures.sound c.with_schema.ensures.denotes c.with_schema.ensures.warnings)
     (refused_text {M = Made} (λ made. schema_in made.0) (λ made. made.1.items) c.args.src.now extensions f warned c.in-Ok.ensures.declares c.with_schema.result c.with_schema.ensures.refused)
+
+pub returns-in-Ok-clause-placed : goal.returns-in-Ok-clause-placed
+returns-in-Ok-clause-placed c =
+    placed_text {M = Made} (λ made. made.0) c.args.src.now (extension_words c.args.extensions.now) (fragment_seen c.in-Ok.declared.0) c.in-Ok.declared.1.items c.in-Ok.ensures.declares
+    c.with_schema.result c.with_schema.ensures.placed
 
 pub returns-in-Err-clause-accepts : goal.returns-in-Err-clause-accepts
 returns-in-Err-clause-accepts c =
