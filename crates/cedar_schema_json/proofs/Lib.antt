@@ -2,3 +2,4 @@
 pub use Rattle.cedar_schema.proofs.Declaring
 pub mod OneShape
 pub mod Reading
+pub mod Unplaced

@@ -9,6 +9,7 @@ ghost use Rattle.cedar_schema.specs.of_fragment_world.FragmentWorlds.{world_of_f
 ghost use Rattle.cedar_json.specs.TextFaults.{IsFragmentText, advised_fault};
 ghost use Rattle.cedar_json_laws.specs.of_json_namespaces.Namespaces.{IsFragment, fragment_fault};
 ghost use Rattle.cedar_names.specs.Extensions.{extension_words};
+ghost use Rattle.cedar_schema.specs.Places.{IsUnplaced};
 ghost use Rattle.cedar_schema.specs.SchemaViews.{IsConsistent, schema_in};
 ghost use Rattle.cedar_schema_json.specs.JsonSchemas.{DenotesSchema, IsWellFormed, JsonCause, unread};
 ghost use Rattle.cedar_schema.specs.of_world.Denotes.{Denotes};
@@ -28,7 +29,7 @@ use std::alloc::Global;
 /// What a schema in JSON denotes, where actions may have no attributes.
 pub trait SchemaJson: Sized {
     /// What the value denotes with these extension types. Refused with the value's first fault, or else with why the
-    /// fragment whose shape it has is not sound.
+    /// fragment whose shape it has is not sound. No entity type and no action has a place.
     fn from_json_value(
         alloc: Global,
         json: &Value,
@@ -36,7 +37,7 @@ pub trait SchemaJson: Sized {
     ) -> Out<Self, SchemaError>;
 
     /// What the text denotes with these extension types. Refused with the text's first fault, and what to do about it,
-    /// or else with why the fragment whose shape it has is not sound.
+    /// or else with why the fragment whose shape it has is not sound. No entity type and no action has a place.
     fn from_json_str(alloc: Global, json: &str, extensions: &Extensions) -> Out<Self, SchemaError>;
 }
 
@@ -60,6 +61,7 @@ impl SchemaJson for ValidatorSchema {
             (λ schema. DenotesSchema (IsFragment (view json.now)) (extension_words extensions.now)
             (schema_in schema)) }
         ensures consistent { IfOk result IsConsistent }
+        ensures unplaced { IfOk result IsUnplaced }
         ensures refused { IfRefused result
             (JsonCause (IsFragment (view json.now)) (fragment_fault (view json.now))
             (extension_words extensions.now)) }
@@ -85,6 +87,7 @@ impl SchemaJson for ValidatorSchema {
             (λ schema. DenotesSchema (IsFragmentText json.now) (extension_words extensions.now)
             (schema_in schema)) }
         ensures consistent { IfOk result IsConsistent }
+        ensures unplaced { IfOk result IsUnplaced }
         ensures refused { IfRefused result
             (JsonCause (IsFragmentText json.now) (advised_fault json.now)
             (extension_words extensions.now)) }

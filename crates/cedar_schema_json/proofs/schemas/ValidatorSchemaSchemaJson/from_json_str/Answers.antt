@@ -9,6 +9,7 @@ use Rattle.cedar_schema.specs.SchemaViews.{schema_in}
 use Rattle.cedar_resolved.specs.declared.schema.ValidatorSchema.{ValidatorSchema}
 use Rattle.cedar_schema_json.proofs.OneShape.{text_clean, text_once}
 use Rattle.cedar_schema_json.proofs.Reading.{accepts_read, accepts_unread, denotes_read, refused_read}
+use Rattle.cedar_schema_json.proofs.Unplaced.{text_unplaced}
 use Rattle.cedar_schema.specs.of_world.Denotes.{Denotes}
 use Rattle.cedar_written.specs.declared.raw_name.RawName.{RawName}
 use Rattle.cedar_schema_json.proofs.schemas.ValidatorSchemaSchemaJson.from_json_str.Goals as goal
@@ -19,6 +20,9 @@ returns-in-Ok-clause-accepts c =
     accepts_read (IsFragmentText c.args.json.now) (advised_fault c.args.json.now) extensions (text_once c.args.json.now) (text_clean c.args.json.now) schema_in c.from_fragment_with.result
     (denotes_read (IsFragmentText c.args.json.now) (advised_fault c.args.json.now) extensions schema_in c.in-Ok.fragment c.in-Ok.ensures.shape c.from_fragment_with.result c.from_fragment_with.ensures.sound c.from_fragment_with.ensures.denotes)
     (refused_read (IsFragmentText c.args.json.now) (advised_fault c.args.json.now) extensions schema_in c.in-Ok.fragment c.in-Ok.ensures.shape c.from_fragment_with.result c.from_fragment_with.ensures.refused)
+
+pub returns-in-Ok-clause-unplaced : goal.returns-in-Ok-clause-unplaced
+returns-in-Ok-clause-unplaced c = text_unplaced c.args.json.now c.in-Ok.fragment c.in-Ok.ensures.shape c.from_fragment_with.result c.from_fragment_with.ensures.placed
 
 pub returns-in-Err-clause-accepts : goal.returns-in-Err-clause-accepts
 returns-in-Err-clause-accepts c =
