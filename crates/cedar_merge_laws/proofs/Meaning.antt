@@ -32,6 +32,7 @@ use Rattle.cedar_merge.specs.Merged.{Merged, NoClash}
 use Rattle.cedar_merge.specs.declared.errors.DeclKind.TheVariants.{Common, Entity, Action}
 use Rattle.cedar_merge_laws.specs.Together.{InOrder, MeansTogether, all_namespaces, seen_together}
 use Rattle.cedar_merge_laws.proofs.Listing.{Row, row, rows, rows_of}
+use Rattle.cedar_merge_laws.proofs.Loops.{fragment_seen_in_order}
 use Rattle.cedar_merge_laws.proofs.Together.{declares_alike}
 use Rattle.cedar_namespace_definitions.specs.Definitions.{AreDefinitionsOf}
 use Rattle.cedar_namespace_definitions.specs.Faults.{all_refused, prohibited}
@@ -343,9 +344,9 @@ module _ (b : ActionBehavior) (X : List (List ℕ)) (ns ms : List (Option Name �
   denotes_there S h d = denotes_alike (world_of_fragment (namespaces_seen ns) X) (namespaces_of (namespaces_seen ms)) (world_alike ns ms r) S h.sound d
 
 -- the merged fragment means what the list means
-pub means_together : (L : List Fragment) (F : Fragment) → AllPass (λ f. InOrder (fragment_seen f)) L → InOrder (fragment_seen F) → NoClash L → Merged L F → MeansTogether L F
-means_together L F sorted in_order none merged =
-    let r = declares_alike L F sorted in_order none merged in
+pub means_together : (L : List Fragment) (F : Fragment) → AllPass (λ f. InOrder (fragment_seen f)) L → NoClash L → Merged L F → MeansTogether L F
+means_together L F sorted none merged =
+    let r = declares_alike L F sorted (fragment_seen_in_order F merged.ordered) none merged in
     let ms = all_namespaces L in
     record {
       sound = λ b X. (sound_there b X F.0 ms r, sound_there b X ms F.0 (turned r));

@@ -24,7 +24,7 @@ use Rattle.cedar_merge.specs.declared.errors.DeclKind.TheVariants.{Common, Entit
 use Rattle.cedar_merge.proofs.Orders.{paths_exact, words_exact}
 use Rattle.cedar_merge.proofs.Permuted.{merged_permuted}
 use Rattle.cedar_merge_laws.specs.Together.{DefinitionInOrder, InOrder, definition_said, said}
-use Rattle.cedar_merge_laws.proofs.Loops.{note_seen}
+use Rattle.cedar_merge_laws.proofs.Loops.{fragment_seen_in_order, note_seen}
 use Rattle.cedar_merge_laws.proofs.SameMaps.{found_changed, found_seen, same_map, seen_each, sorted_changed}
 
 -- ---- one declaration
@@ -125,5 +125,5 @@ module _ (F G : Fragment) (f : InOrder (fragment_seen F)) (g : InOrder (fragment
       (λ path. found_said F path ∙ each_same path (definition_at F path) (definition_at G path) refl refl ∙ sym (found_said G path))
 
 -- what is merged in another order says the same
-pub merged_said : (L M : List Fragment) → IsPermutation L M → (F G : Fragment) → Merged L F → Merged M G → InOrder (fragment_seen F) → InOrder (fragment_seen G) → said (fragment_seen F) ≡ said (fragment_seen G)
-merged_said L M permutes F G a b f g = said_alike F G f g (merged_permuted L M permutes F G a b)
+pub merged_said : (L M : List Fragment) → IsPermutation L M → (F G : Fragment) → Merged L F → Merged M G → said (fragment_seen F) ≡ said (fragment_seen G)
+merged_said L M permutes F G a b = said_alike F G (fragment_seen_in_order F a.ordered) (fragment_seen_in_order G b.ordered) (merged_permuted L M permutes F G a b)

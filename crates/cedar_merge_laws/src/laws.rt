@@ -15,18 +15,17 @@ ghost use Rattle.cedar_namespace_definitions.specs.Definitions.{AreDefinitionsOf
 ghost use Rattle.cedar_world.specs.DefinitionViews.{namespace_in};
 ghost use Rattle.cedar_written.specs.declared.conditional_name.ConditionalName.{ConditionalName};
 
-use crate::ordering::{fragment_in_order, fragments_in_order};
+use crate::ordering::fragments_in_order;
 use cedar_data::Out;
 use cedar_fragment::{Fragment, RawName};
 use cedar_merge::{MergeError, merge};
 use std::alloc::Global;
 
 /// A law: a fragment that says what several say together, of which no two declare the same, is sound where all of them
-/// together are, and then denotes the same schema. It and they stand in the order of their names, as each fragment does
-/// that stands as a `Fragment`. It does nothing when it runs.
+/// together are, and then denotes the same schema. They stand in the order of their names, as each fragment does that
+/// stands as a `Fragment`. It does nothing when it runs.
 pub fn meaning_together()
     ensures { (L : List Held) (F : Held) → AllPass (λ f. InOrder (fragment_seen f)) L
-        → InOrder (fragment_seen F)
         → NoClash L → Merged L F → MeansTogether L F }
 {}
 
@@ -39,12 +38,11 @@ pub fn definitions_together()
         → map namespace_in (flat_map definitions_of made) ≡ namespaces_of (seen_together L) }
 {}
 
-/// A law: what fragments are merged into in another order says the same, the places of the annotations of its namespaces
-/// aside, where both stand in the order of their names. It does nothing when it runs.
+/// A law: fragments are merged into one fragment, the places of the annotations of its namespaces aside, in whatever
+/// order they stand. It does nothing when it runs.
 pub fn orders_of_merged()
     ensures { (L M : List Held) → IsPermutation L M → (F G : Held) → Merged L F → Merged M G
-        → InOrder (fragment_seen F)
-        → InOrder (fragment_seen G) → said (fragment_seen F) ≡ said (fragment_seen G) }
+        → said (fragment_seen F) ≡ said (fragment_seen G) }
 {}
 
 /// Asks `merge`. The fragment that it answers is sound where all fragments together are, and then denotes the same schema.
@@ -57,6 +55,5 @@ pub fn merge_as_one(
     meaning_together();
     fragments_in_order(fragments.as_slice());
     let merged = merge(alloc, fragments)?;
-    fragment_in_order(&merged);
     Ok(merged)
 }

@@ -1,29 +1,15 @@
 // SPDX-License-Identifier: Apache-2.0
-ghost use Rattle.cedar_convert_fragment.specs.Views.{definition_seen, fragment_seen};
+ghost use Rattle.cedar_convert_fragment.specs.Views.{fragment_seen};
 ghost use Rattle.cedar_data.specs.Firsts.{AllPass};
-ghost use Rattle.cedar_merge_laws.specs.Together.{DefinitionInOrder, InOrder};
+ghost use Rattle.cedar_merge_laws.specs.Together.{InOrder};
 
-use cedar_fragment::{Fragment, NamespaceDefinition, RawName};
-
-/// A law: what a namespace declares stands in the order of its names, and its annotations in that of their keys. It
-/// changes nothing when it runs.
-fn definition_in_order(definition: &NamespaceDefinition<RawName>)
-    ensures { DefinitionInOrder (definition_seen definition.now) }
-{
-    let _common_types = definition.common_types.len();
-    let _entity_types = definition.entity_types.len();
-    let _actions = definition.actions.len();
-    let _annotations = definition.annotations.iter();
-}
+use cedar_fragment::{Fragment, RawName};
 
 /// A law: what a fragment declares stands in the order of its names. It changes nothing when it runs.
-#[tactic(auto, using(crate::proofs::Loops::each_definition))]
 pub fn fragment_in_order(fragment: &Fragment<RawName>)
     ensures { InOrder (fragment_seen fragment.now) }
 {
-    for (_, definition) in fragment.0.iter() {
-        definition_in_order(definition);
-    }
+    cedar_merge::fragment_in_order(fragment);
 }
 
 /// The same of several.

@@ -10,4 +10,4 @@ pub returns : goal.returns
 returns c =
     means_together c.args.fragments.items c.in_ok-merged.merged
     (subst (AllPass (λ f. InOrder (fragment_seen f))) c.as_slice.ensures.value c.fragments_in_order.ensures)
-    c.fragment_in_order.ensures c.in_ok-merged.ensures.apart.0 c.in_ok-merged.ensures.merged
+    c.in_ok-merged.ensures.apart.0 c.in_ok-merged.ensures.merged
