@@ -5,9 +5,9 @@
 mod entering;
 mod environments;
 mod fault;
+mod fault_places;
 mod keys;
 mod parts;
-mod places;
 mod refusing;
 mod requests;
 
