@@ -1,0 +1,9 @@
+-- SPDX-License-Identifier: Apache-2.0
+pub mod Members
+pub mod KindsKept
+pub mod Faultless
+pub mod RuledOut
+pub mod FragmentKinds
+pub mod MadeKinds
+pub mod FragmentsFree
+pub mod TextsFree
