@@ -32,7 +32,7 @@ use Rattle.cedar_refusal_laws.specs.Kinds.{ActionHasKinds, AreOf, DeclareFree, E
 use Rattle.cedar_refusal_laws.specs.WrongKinds.{is_of_wrong_kinds}
 use Rattle.cedar_refusal_laws.proofs.Faultless.{IsOther, entity_found, entity_free, type_right}
 use Rattle.cedar_refusal_laws.proofs.KindsKept.{all_free, commons_have, entities_named, namespaces_have, uses_have}
-use Rattle.cedar_refusal_laws.proofs.Members.{found_passes, none_kept, of_first, of_first_refused, of_member, pass_filter_map}
+use Rattle.cedar_refusal_laws.proofs.Members.{found_passes, none_kept, of_first, of_first_refused, of_member, pass_each_item, pass_filter_map}
 
 -- what is equal to another refusal is one
 other : (e f : Refusal) → e ≡ f → IsOther f → IsOther e
@@ -71,16 +71,12 @@ module _ (W : World) (kinds : HaveTheirKinds W.namespaces) (free : DeclareFree (
   -- what references to actions mean
   parents_free : (rs : List ActionReference) → AllPass IsFree (parent_types (names W) rs)
   parents_free rs = pass_map IsFree (λ (uid : Uid). uid.ty) (filter_map (action_target (names W)) rs)
-      (pass_filter_map (λ r. Unit {0}) (λ (uid : Uid). IsFree uid.ty) (action_target (names W)) each rs (all rs))
+      (pass_filter_map (λ r. Unit {0}) (λ (uid : Uid). IsFree uid.ty) (action_target (names W)) each rs (pass_each_item (λ r. Unit {0}) (λ r. tt) rs))
     where
       each : (r : ActionReference) (uid : Uid) → Unit {0} → action_target (names W) r ≡ Some uid → IsFree uid.ty
       each r uid u found =
           of_member uids_exact (λ (uid : Uid). IsFree uid.ty) (names W).actions uid (all_free W free).actions
           (found_passes (is_action (names W)) (map (λ name. record { ty = name; id = r.id }) r.ty.possibilities) uid found)
-
-      all : (rs : List ActionReference) → AllPass (λ r. Unit {0}) rs
-      all [] = tt
-      all (r ∷ rs) = (tt, all rs)
 
   action_free : (a : ActionDefinition NameReference ActionReference) → ActionHasKinds a → AllPass IsFree (action_memberships (names W) a)
   action_free a h = pass_append IsFree (targets (names W) a.principals ++ targets (names W) a.resources) (parent_types (names W) a.parents)

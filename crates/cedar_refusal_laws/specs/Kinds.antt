@@ -28,6 +28,7 @@ abbrev mutual
   HasItsKinds (EntityOrCommon r) = r.kind ≡ kind.CommonOrEntity
   HasItsKinds (CommonTypeRef r) = r.kind ≡ kind.Common
 
+  -- so in the types of attributes
   pub HaveItsKinds : WrittenAttributes NameReference → Type 0
   HaveItsKinds no_attributes = Unit {0}
   HaveItsKinds (attribute name required ty others) = HasItsKinds ty × HaveItsKinds others
