@@ -6,6 +6,7 @@ use Rattle.cedar_text.specs.Words.{has_word}
 use Rattle.serde_json.specs.Data.{Data, string}
 use Rattle.serde_json.specs.Find.{get}
 use Rattle.serde_json.specs.Read.{read}
+use Rattle.serde_json.specs.View.{view}
 use Rattle.cedar_json_counts.specs.Counts.{capped, colons, members_in}
 use Rattle.cedar_json_types.specs.Shapes.{Keyed}
 use Rattle.cedar_envelope.specs.Members.{has_member, has_text}
@@ -22,7 +23,7 @@ enveloped d texts values = record { whole = d; text_keys = texts; value_keys = v
 
 -- what the envelope holds
 abbrev pub contents : Envelope → Contents
-contents e = enveloped e.whole e.texts e.values
+contents e = enveloped (view e.whole) e.texts e.values
 
 -- the key is one of the texts', and the member there is this text
 abbrev pub HoldsText : Contents → List ℕ → List ℕ → Type 0

@@ -5,43 +5,20 @@ ghost use Rattle.serde_json.specs.View.{view};
 ghost use Rattle.cedar_envelope.specs.Members.{has_member, has_text};
 
 use crate::keys::{copied, is_one};
-use cedar_data::{Dup, Items, Mem, Text, dup_three};
+use cedar_data::{Items, Mem, Text};
 use serde_json::Value;
 use std::alloc::Global;
-use std::marker::Model;
-
-/// A value in JSON, which contracts see as what it reads as, so that a copy equals its source.
-#[derive(Debug, Drop)]
-struct Whole {
-    value: Value,
-}
-
-impl Model for Whole {
-    ghost use Rattle.serde_json.specs.Data.{Data};
-    ghost use Rattle.serde_json.specs.View.{view};
-
-    ghost Value = { Data };
-
-    ghost view = { λ w. view w.value };
-}
-
-impl Dup for Whole {
-    fn dup(&self, _alloc: Global) -> Mem<Whole> {
-        let value = self.value.clone()?;
-        Ok(Whole { value })
-    }
-}
 
 /// An object in JSON with its texts and its values, each asked for by its key.
 #[derive(Debug, Drop)]
 pub struct Envelope {
-    whole: Whole,
+    whole: Value,
     texts: Items<Text>,
     values: Items<Text>,
     /// The object has a text at each key of the texts.
-    pub ghost texts_there: { IsTrue (list_all (has_text whole) texts) },
+    pub ghost texts_there: { IsTrue (list_all (has_text (view whole)) texts) },
     /// The object has a member at each key of the values.
-    pub ghost values_there: { IsTrue (list_all (has_member whole) values) },
+    pub ghost values_there: { IsTrue (list_all (has_member (view whole)) values) },
 }
 
 impl Envelope {
@@ -58,7 +35,7 @@ impl Envelope {
         let texts = copied(alloc, texts)?;
         let values = copied(alloc, values)?;
         Ok(Envelope {
-            whole: Whole { value: whole },
+            whole,
             texts,
             values,
         })
@@ -72,7 +49,7 @@ impl Envelope {
         if !is_one(self.texts.as_slice(), key) {
             return None;
         }
-        let Some(member) = self.whole.value.get(key) else {
+        let Some(member) = self.whole.get(key) else {
             return None;
         };
         member.as_str()
@@ -86,17 +63,6 @@ impl Envelope {
         if !is_one(self.values.as_slice(), key) {
             return None;
         }
-        self.whole.value.get(key)
-    }
-}
-
-impl Dup for Envelope {
-    fn dup(&self, alloc: Global) -> Mem<Envelope> {
-        let (whole, texts, values) = dup_three(alloc, &self.whole, &self.texts, &self.values)?;
-        Ok(Envelope {
-            whole,
-            texts,
-            values,
-        })
+        self.whole.get(key)
     }
 }
