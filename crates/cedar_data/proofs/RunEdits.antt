@@ -213,6 +213,11 @@ module _ {K V : Type 0} where
         by [] f p = absurd cc
         by (x ∷ es) f p = ap (λ o. cond (is_lt o) (Some x) (first_after cmp key (es ++ all_runs (drop (suc (at + 1)) runs)))) p.0 ∙ sym f
 
+    -- which there is, since no run is empty
+    pub after-next-first : (o : Option (K × V)) (next : List (K × V)) → None ≡ first_after cmp key run → at + 1 < length runs → next ≡ get_or runs (at + 1) next → next ≢ [] → o ≡ slice_get next 0 → o ≡ first_after cmp key (all_runs runs)
+    after-next-first o [] h l is some first = absurd (some refl)
+    after-next-first o (e ∷ es) h l is some first = first ∙ after-next e (e ∷ es) h l is refl
+
     -- an entry put into the run of the key is put among all
     put_around : (value : V) → insert_entry cmp (all_runs runs) key value ≡ front ++ (insert_entry cmp run key value ++ back)
     put_around value =

@@ -10,7 +10,7 @@ ghost use Rattle.cedar_data.specs.Runs.{all_runs, begins_by, first_after, AreRun
 
 use crate::entries_iter::{EntriesIntoIter, EntriesIter};
 use crate::memory::{Mem, NoMemory};
-use crate::near::{Near, get_among};
+use crate::near::{Near, after_among, get_among};
 use crate::run::{MOST, Run};
 use std::alloc::Global;
 use std::marker::Model;
@@ -305,24 +305,14 @@ impl<K: Ord, V> Entries<K, V> {
         }
     }
 
-    /// The first entry whose key is greater than `key`.
+    /// The first entry whose key is greater than `key`. The search begins where the last one ended, which `near` tells.
     #[tactic(auto, unfolding(crate::specs::EntriesHeld::IsHeld))]
-    pub(crate) fn after(&self, key: &K) -> Option<(&K, &V)>
+    pub(crate) fn after_near(&self, near: &mut Near, key: &K) -> Option<(&K, &V)>
         ensures { option_map (λ e. (e.0.now, e.1.now)) result ≡ first_after K.cmp key.now self.now }
     {
         match &self.held {
-            Held::One(run) => run.after(key),
-            Held::Several(runs) => {
-                let at = run_of(runs.as_slice(), key);
-                if let Some(entry) = runs[at].after(key) {
-                    return Some(entry);
-                }
-                let next = runs.as_slice().get(at + 1)?;
-                match next.as_slice().first() {
-                    Some(entry) => Some((&entry.0, &entry.1)),
-                    None => None,
-                }
-            }
+            Held::One(run) => run.after_near(&mut near.at, key),
+            Held::Several(runs) => after_among(runs.as_slice(), near, key),
         }
     }
 

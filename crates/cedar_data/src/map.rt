@@ -89,11 +89,12 @@ impl<K: Ord, V> Map<K, V> {
         self.map.get_near(near, key)
     }
 
-    /// The first entry whose key is greater than `key`.
-    pub fn after(&self, key: &K) -> Option<(&K, &V)>
+    /// The first entry whose key is greater than `key`, in few steps where the keys of the searches ascend: each begins
+    /// where the last one ended, which `near` tells. It makes no difference to what is found.
+    pub fn after_near(&self, near: &mut Near, key: &K) -> Option<(&K, &V)>
         ensures { option_map (λ e. (e.0.now, e.1.now)) result ≡ first_after K.cmp key.now self.now }
     {
-        self.map.after(key)
+        self.map.after_near(near, key)
     }
 
     /// Whether a key is equal to `key` in the order of the keys.

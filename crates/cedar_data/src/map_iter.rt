@@ -9,7 +9,7 @@ use std::iter::{ExactSizeIterator, Iterator};
 use std::marker::Model;
 
 /// The keys of a map, in their order.
-#[derive(Drop)]
+#[derive(Debug, Drop)]
 pub struct MapKeys<'a, K: Ord, V> {
     entries: EntriesIter<'a, K, V>,
 }
@@ -58,7 +58,7 @@ impl<'a, K: Ord, V> ExactSizeIterator for MapKeys<'a, K, V> {
 }
 
 /// The entries of a map, in the order of their keys.
-#[derive(Drop)]
+#[derive(Debug, Drop)]
 pub struct MapIter<'a, K: Ord, V> {
     entries: EntriesIter<'a, K, V>,
 }
@@ -92,7 +92,7 @@ impl<'a, K: Ord, V> Iterator for MapIter<'a, K, V> {
 }
 
 /// The values of a map, in the order of their keys.
-#[derive(Drop)]
+#[derive(Debug, Drop)]
 pub struct MapValues<'a, K: Ord, V> {
     entries: EntriesIter<'a, K, V>,
 }

@@ -1,10 +1,10 @@
 // SPDX-License-Identifier: Apache-2.0
 //! Searches that begin where the last one ended.
-ghost use Rattle.std.specs.Prelude.{◌≡◌, ◌<◌, ◌≤◌, ◌^◌, [], slice_get, get_or, length, IfOk, IfErr, IfSome};
+ghost use Rattle.std.specs.Prelude.{◌≡◌, ◌<◌, ◌≤◌, ◌^◌, [], slice_get, get_or, length, option_map, IfOk, IfErr, IfSome};
 ghost use Rattle.std.specs.Option.{option_copied};
 ghost use Rattle.cedar_data.specs.Maps.{get, IsSortedMap};
 ghost use Rattle.cedar_data.specs.Places.{StandsAt, BelongsAt, HasValue, compared};
-ghost use Rattle.cedar_data.specs.Runs.{all_runs, begins_by, AreRuns, IsRunOf};
+ghost use Rattle.cedar_data.specs.Runs.{all_runs, begins_by, first_after, AreRuns, IsRunOf};
 ghost use Rattle.std.specs.declared.cmp.Ordering.TheVariants.{Greater, Less};
 
 use crate::entries::run_of;
@@ -103,6 +103,25 @@ impl<K: Ord, V> Run<K, V> {
         }
     }
 
+    /// Where the first entry stands whose key is greater than `key`: behind all, where there is none. The entries around
+    /// the index are looked at first.
+    fn place_after(&self, near: usize, key: &K) -> usize
+        ensures { first_after K.cmp key.now self.now ≡ slice_get self.now result }
+    {
+        match self.place_near(near, key) {
+            Ok(at) => at + 1,
+            Err(at) => at,
+        }
+    }
+
+    /// The first entry whose key is greater than `key`. The search begins near the index, which is then its own.
+    pub(crate) fn after_near(&self, near: &mut usize, key: &K) -> Option<(&K, &V)>
+        ensures { option_map (λ e. (e.0.now, e.1.now)) result ≡ first_after K.cmp key.now self.now }
+    {
+        *near = self.place_after(*near, key);
+        self.entry_at(*near)
+    }
+
     /// The value at the index, if the key there is equal to `key`. The index is that of the next entry then.
     fn next_near(&self, near: &mut usize, key: &K) -> Option<&V>
         ensures { IfSome result (λ value. HasValue K.cmp self.now key.now value.now) }
@@ -160,4 +179,29 @@ pub(crate) fn get_among<'a, K: Ord, V>(
         *near = Near { run, at: 0 };
     }
     runs[run].get_near(&mut near.at, key)
+}
+
+/// The first entry whose key is greater than `key`. The search begins near the place, which is then that of the entry.
+pub(crate) fn after_among<'a, K: Ord, V>(
+    runs: &'a [Run<K, V>],
+    near: &mut Near,
+    key: &K,
+) -> Option<(&'a K, &'a V)>
+    requires { AreRuns K.cmp runs.now }
+    ensures { option_map (λ e. (e.0.now, e.1.now)) result
+        ≡ first_after K.cmp key.now (all_runs runs.now) }
+{
+    let run = run_near(runs, near.run, key);
+    if run != near.run {
+        *near = Near { run, at: 0 };
+    }
+    if let Some(entry) = runs[run].after_near(&mut near.at, key) {
+        return Some(entry);
+    }
+    let next = runs.get(run + 1)?;
+    *near = Near {
+        run: run + 1,
+        at: 0,
+    };
+    next.entry_at(0)
 }

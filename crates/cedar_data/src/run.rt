@@ -6,7 +6,6 @@ ghost use Rattle.std.specs.List.Sorted.{IsStrictlySortedBy};
 ghost use Rattle.std.specs.Map.{keys_of};
 ghost use Rattle.cedar_data.specs.Maps.{get, IsSortedMap};
 ghost use Rattle.cedar_data.specs.Places.{StandsAt, BelongsAt, EndsBefore};
-ghost use Rattle.cedar_data.specs.Runs.{first_after};
 
 use crate::memory::{Mem, widen};
 use std::alloc::Global;
@@ -134,21 +133,11 @@ impl<K: Ord, V> Run<K, V> {
         }
     }
 
-    /// Where the first entry stands whose key is greater than `key`: behind all, where there is none.
-    fn place_after(&self, key: &K) -> usize
-        ensures { first_after K.cmp key.now self.now ≡ slice_get self.now result }
+    /// The entry at the index, if there is one.
+    pub(crate) fn entry_at(&self, at: usize) -> Option<(&K, &V)>
+        ensures { option_map (λ e. (e.0.now, e.1.now)) result ≡ slice_get self.now at }
     {
-        match self.place(key) {
-            Ok(at) => at + 1,
-            Err(at) => at,
-        }
-    }
-
-    /// The first entry whose key is greater than `key`.
-    pub(crate) fn after(&self, key: &K) -> Option<(&K, &V)>
-        ensures { option_map (λ e. (e.0.now, e.1.now)) result ≡ first_after K.cmp key.now self.now }
-    {
-        match self.entries.as_slice().get(self.place_after(key)) {
+        match self.entries.as_slice().get(at) {
             Some(entry) => Some((&entry.0, &entry.1)),
             None => None,
         }

@@ -9,14 +9,14 @@ use cedar_data::MapIter;
 use cedar_names::{EntityType, EntityUID};
 
 /// The names of the entity types that have a type among their descendants, in order.
-#[derive(Drop)]
+#[derive(Debug, Drop)]
 pub struct AncestorIter<'a> {
     ty: &'a EntityType,
     types: MapIter<'a, EntityType, ValidatorEntityType>,
 }
 
 /// The names of the actions that have descendants, in order.
-#[derive(Drop)]
+#[derive(Debug, Drop)]
 pub struct GroupIter<'a> {
     actions: MapIter<'a, EntityUID, ValidatorActionId>,
 }

@@ -8,14 +8,14 @@ use cedar_data::SetIter;
 use cedar_names::EntityType;
 
 /// The entity types of the principals of actions, for each action in order, so that a type may come again.
-#[derive(Drop)]
+#[derive(Debug, Drop)]
 pub struct PrincipalIter<'a> {
     current: Option<SetIter<'a, EntityType>>,
     actions: ActionIter<'a>,
 }
 
 /// The entity types of the resources of actions, for each action in order, so that a type may come again.
-#[derive(Drop)]
+#[derive(Debug, Drop)]
 pub struct ResourceIter<'a> {
     current: Option<SetIter<'a, EntityType>>,
     actions: ActionIter<'a>,

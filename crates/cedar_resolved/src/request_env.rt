@@ -26,14 +26,14 @@ pub enum RequestEnv<'a> {
 
 /// The request environments of actions: for each action in order, for each of its principals in order, each of its
 /// resources in order.
-#[derive(Drop)]
+#[derive(Debug, Drop)]
 pub struct EnvIter<'a> {
     current: Option<ActionEnvs<'a>>,
     actions: MapIter<'a, EntityUID, ValidatorActionId>,
 }
 
 /// The request environments of one action that are left.
-#[derive(Drop)]
+#[derive(Debug, Drop)]
 struct ActionEnvs<'a> {
     name: &'a EntityUID,
     action: &'a ValidatorActionId,
