@@ -4,6 +4,7 @@ pub mod EscapeLemmas
 pub mod FormLemmas
 pub mod LiteralLemmas
 pub mod PartsLemmas
+pub mod PlainTexts
 pub mod UndoLemmas
 pub mod UnescapeLemmas
 pub mod WritingLemmas

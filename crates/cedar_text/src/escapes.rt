@@ -1,7 +1,8 @@
 // SPDX-License-Identifier: Apache-2.0
-ghost use Rattle.std.specs.Prelude.{◌≡◌, ◌≤◌, ◌<◌, [], ◌∷◌, ◌++◌, false, IsTrue, IfOk, Some, codes, encode_utf8, String};
+ghost use Rattle.std.specs.Prelude.{◌≡◌, ◌==◌, ◌≤◌, ◌<◌, [], ◌∷◌, ◌++◌, length, false, IsTrue, IfOk, Some, codes, encode_utf8, String};
 ghost use Rattle.std.specs.Char.{is_ascii_control};
 ghost use Rattle.std.specs.Fmt.{WritesOnOk, digits, digit_glyph};
+ghost use Rattle.std.specs.List.{list_all};
 ghost use Rattle.std.specs.String.{string_bytes};
 ghost use Rattle.cedar_text.specs.Escapes.{escaped_byte, escaped_char, escaped, backslashed};
 
@@ -113,14 +114,38 @@ fn write_escaped<W: fmt::Write>(f: &mut fmt::Formatter<W>, c: char) -> fmt::Resu
     }
 }
 
+/// Whether the byte stands for itself in quoted text.
+fn stands_alone(byte: u8) -> bool
+    ensures { result ≡ (length (escaped_byte byte) == 1) }
+{
+    !(byte.is_ascii_control() || byte == b'"' || byte == b'\'' || byte == b'\\')
+}
+
+/// Whether each byte of the text stands for itself in quoted text.
+fn has_no_escape(text: &str) -> bool
+    ensures { result ≡ list_all (λ b. length (escaped_byte b) == 1) text.now }
+{
+    text.as_bytes().iter().all(|byte| stands_alone(*byte))
+}
+
+/// Writes each character as it stands in quoted text.
+fn write_characters<W: fmt::Write>(text: &str, f: &mut fmt::Formatter<W>) -> fmt::Result
+    ensures { WritesOnOk W.write_str_gives f.old result (escaped text.now) f.new }
+{
+    for c in text.chars() {
+        write_escaped(f, c)?;
+    }
+    Ok(())
+}
+
 impl fmt::Display for Escaped<'_> {
     ghost output = { λ e. Some (escaped e.0.now) };
 
     fn fmt<W: fmt::Write>(&self, f: &mut fmt::Formatter<W>) -> fmt::Result {
-        for c in self.0.chars() {
-            write_escaped(f, c)?;
+        if has_no_escape(self.0) {
+            return f.write_str(self.0);
         }
-        Ok(())
+        write_characters(self.0, f)
     }
 }
 
