@@ -1,6 +1,7 @@
 -- SPDX-License-Identifier: Apache-2.0
 pub mod of_data
 pub mod AnnotationLemmas
+pub mod AnnotationTexts
 pub mod EntityTexts
 pub mod EntityUidLemmas
 pub mod ExtensionLemmas

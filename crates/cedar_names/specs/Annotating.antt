@@ -1,8 +1,10 @@
 -- SPDX-License-Identifier: Apache-2.0
-use Rattle.std.specs.Prelude.{ℕ, List, Option}
+use Rattle.std.specs.Prelude.{ℕ, List, Option, ◌++◌, codes}
+use Rattle.std.specs.List.{flat_map}
 use Rattle.std.specs.Map.{lookup}
 use Rattle.std.specs.Str.{bytes_eq}
 use Rattle.std.specs.declared.cmp.Ordering.{Ordering}
+use Rattle.cedar_text.specs.Escapes.{escaped}
 use Rattle.cedar_names.specs.Identifiers.{any_word}
 use Rattle.cedar_names.specs.Order.{word_cmp}
 use Rattle.cedar_names.specs.declared.annotation.Annotation.{Annotation}
@@ -20,3 +22,11 @@ annotation_entries a = a.map
 -- the annotation at the key of this word
 abbrev pub annotation_at : List (AnyId × Annotation) → List ℕ → Option Annotation
 annotation_at es name = lookup (λ id. bytes_eq name (any_word id)) es
+
+-- `@key("value")` and the end of the line
+abbrev pub annotation_line : AnyId × Annotation → List ℕ
+annotation_line e = codes "@" ++ any_word e.0 ++ codes "(\"" ++ escaped e.1.val ++ codes "\")\n"
+
+-- a line for each
+abbrev pub annotation_lines : Annotations → List ℕ
+annotation_lines a = flat_map annotation_line (annotation_entries a)

@@ -2,14 +2,16 @@
 ghost use Rattle.std.specs.Prelude.{◌≡◌, [], ◌↔◌, ℕ, List, cond, Some, IsTrue, OnOk, OnErr};
 ghost use Rattle.std.specs.BTreeMap.{insert_entry};
 ghost use Rattle.std.specs.Option.{option_copied};
+ghost use Rattle.std.specs.Fmt.{WritesOnOk};
 ghost use Rattle.std.specs.Str.{bytes_eq};
 ghost use Rattle.cedar_text.specs.of_data.Maps.{IsSortedMap};
-ghost use Rattle.cedar_names.specs.Annotating.{annotation_entries, annotation_at, any_cmp};
+ghost use Rattle.cedar_names.specs.Annotating.{annotation_entries, annotation_at, annotation_line, annotation_lines, any_cmp};
 ghost use Rattle.cedar_names.specs.Identifiers.{any_word};
 
 use crate::any_id::AnyId;
-use cedar_text::{Dup, Loc, Map, MapIter, Mem, Text};
+use cedar_text::{Dup, Escaped, Loc, Map, MapIter, Mem, Text};
 use std::alloc::Global;
+use std::fmt;
 
 /// The value of an annotation. Comparisons leave the place out.
 #[derive(Debug, Drop)]
@@ -86,6 +88,31 @@ impl Annotations {
         ensures ascending { IsSortedMap any_cmp (annotation_entries self.now) }
     {
         self.map.iter()
+    }
+}
+
+/// Writes `@key("value")` and the end of a line.
+fn write_annotation<W: fmt::Write>(
+    key: &AnyId,
+    annotation: &Annotation,
+    f: &mut fmt::Formatter<W>,
+) -> fmt::Result
+    ensures { WritesOnOk W.write_str_gives f.old result (annotation_line (key.now, annotation.now))
+        f.new }
+{
+    let value = Escaped(annotation.val.as_str());
+    write!(f, "@{key}(\"{value}\")\n")
+}
+
+/// Each on a line of its own, in the order of their keys.
+impl fmt::Display for Annotations {
+    ghost output = { λ annotations. Some (annotation_lines annotations) };
+
+    fn fmt<W: fmt::Write>(&self, f: &mut fmt::Formatter<W>) -> fmt::Result {
+        for (key, annotation) in self.iter() {
+            write_annotation(key, annotation, f)?;
+        }
+        Ok(())
     }
 }
 

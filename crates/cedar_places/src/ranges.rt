@@ -8,7 +8,8 @@ use std::alloc::Global;
 
 /// Puts the range of a place, in bytes, behind the others, if there is one. It fails only for want of memory.
 pub fn push_range(spans: &mut Vec<Span>, place: Option<&Loc>) -> Mem<()>
-    ensures { OnOk result (spans.new.items ≡ spans.old.items ++ range (option_copied place.entry)) }
+    ensures { OnOk result (spans.new.items
+        ≡ spans.old.items ++ range (option_copied place.entry)) }
 {
     if let Some(loc) = place {
         spans.push(loc.span())?;

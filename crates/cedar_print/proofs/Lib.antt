@@ -1,5 +1,4 @@
 -- SPDX-License-Identifier: Apache-2.0
 pub mod of_data
-pub mod PlainTexts
 pub mod Texts
 pub mod Prints

@@ -1,6 +1,6 @@
 -- SPDX-License-Identifier: Apache-2.0
 -- Laws of the text of pieces.
-use Rattle.std.proofs.Common.{◌≡◌, ℕ, List, [], ◌∷◌, ◌++◌, refl, sym, ap, ◌∙◌, Option, Some, None}
+use Rattle.std.proofs.Common.{◌≡◌, ℕ, List, [], ◌∷◌, ◌++◌, refl, sym, ap, ◌∙◌, append_assoc, Option, Some, None}
 use Rattle.std.specs.Prelude.{codes}
 use Rattle.std.proofs.Output.{then_text_assoc}
 use Rattle.std.proofs.lemmas.List.{append-nil}
@@ -8,8 +8,12 @@ use Rattle.std.specs.Fmt.{◌++?◌}
 use Rattle.std.specs.List.{flat_map}
 use Rattle.cedar_names.specs.Maps.{map_values}
 use Rattle.cedar_names.specs.Joining.{joined}
-use Rattle.cedar_names.specs.Annotating.{annotation_entries}
+use Rattle.cedar_names.specs.Annotating.{annotation_entries, annotation_line, annotation_lines}
+use Rattle.cedar_names.specs.Escapes.{escaped}
+use Rattle.cedar_names.specs.declared.annotation.Annotation.{Annotation}
 use Rattle.cedar_names.specs.declared.annotation.Annotations.{Annotations}
+use Rattle.cedar_names.specs.declared.any_id.AnyId.{AnyId}
+use Rattle.cedar_names.specs.Identifiers.{any_word}
 use Rattle.cedar_print.specs.Annotations.{annotation_pieces, annotations_pieces, nameless}
 use Rattle.cedar_print.specs.Pieces.{Pieces, mark, comma, piece_text, text_of, following, separated, bracketed, word, name_pieces}
 
@@ -53,6 +57,19 @@ module _ {N M T : Type 0} (shown : N → Option (List ℕ)) (shown' : M → Opti
 -- annotations hold no names
 pub text_of-annotations : {N : Type 0} (shown : N → Option (List ℕ)) (a : Annotations) → text_of nameless (annotations_pieces a) ≡ text_of shown (annotations_pieces a)
 text_of-annotations shown a = text_of-flat_map nameless shown annotation_pieces annotation_pieces (λ e. refl) (annotation_entries a)
+
+-- and their text is a line for each
+module _ {N : Type 0} (shown : N → Option (List ℕ)) where
+  text_of-annotation : (e : AnyId × Annotation) → text_of shown (annotation_pieces e) ≡ Some (annotation_line e)
+  text_of-annotation e =
+      ap (λ (l : List ℕ). Some (64 ∷ (any_word e.0 ++ 40 ∷ 34 ∷ l))) (append_assoc (escaped e.1.val) (34 ∷ []) (41 ∷ 10 ∷ []))
+
+  text_of-entries : (es : List (AnyId × Annotation)) → text_of shown (flat_map annotation_pieces es) ≡ Some (flat_map annotation_line es)
+  text_of-entries [] = refl
+  text_of-entries (e ∷ es) = text_of-append shown (annotation_pieces e) (flat_map annotation_pieces es) ∙ (λ i. text_of-annotation e i ++? text_of-entries es i)
+
+  pub text_of-annotation_lines : (a : Annotations) → text_of shown (annotations_pieces a) ≡ Some (annotation_lines a)
+  text_of-annotation_lines a = text_of-entries (annotation_entries a)
 
 -- what each value of a map becomes, before or behind
 pub following-values : {K V W A : Type 0} (separator : List A) (parts : K × W → List A) (g : V → W) (es : List (K × V)) → following separator parts (map_values g es) ≡ following separator (λ e. parts (e.0, g e.1)) es
