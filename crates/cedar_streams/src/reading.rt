@@ -6,6 +6,7 @@ ghost use Rattle.cedar_streams.specs.declared.reading.ReadStop.TheVariants.{Faul
 
 use crate::source::{Source, SourceFailed};
 use cedar_data::{Dup, Mem};
+use cedar_text::Span;
 use std::alloc::{AllocError, Global};
 use std::error::Error;
 use std::fmt;
@@ -40,6 +41,24 @@ impl fmt::Display for ReadStop {
 }
 
 impl Error for ReadStop {}
+
+impl ReadStop {
+    ghost use Rattle.std.specs.Prelude.{◌≡◌, [], None, IfOk};
+
+    /// What to do about it: there is nothing to say.
+    pub fn help(&self, _alloc: Global) -> Mem<Option<String>>
+        ensures { IfOk result (λ help. help ≡ None) }
+    {
+        Ok(None)
+    }
+
+    /// The places of the kept pieces that have one: none is kept.
+    pub fn spans(&self, alloc: Global) -> Mem<Vec<Span>>
+        ensures { IfOk result (λ spans. spans.items ≡ []) }
+    {
+        Ok(Vec::new(alloc))
+    }
+}
 
 impl Dup for ReadStop {
     fn dup(&self, _alloc: Global) -> Mem<ReadStop> {

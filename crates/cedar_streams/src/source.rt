@@ -5,6 +5,7 @@ ghost use Rattle.cedar_streams.specs.Bytes.{ReadGives};
 ghost use Rattle.cedar_streams.specs.Faults.{HasCause};
 
 use cedar_data::{Dup, Mem};
+use cedar_text::Span;
 use std::alloc::Global;
 use std::error::Error;
 use std::fmt;
@@ -22,6 +23,24 @@ impl fmt::Display for SourceFailed {
 }
 
 impl Error for SourceFailed {}
+
+impl SourceFailed {
+    ghost use Rattle.std.specs.Prelude.{◌≡◌, [], None, IfOk};
+
+    /// What to do about it: there is nothing to say.
+    pub fn help(&self, _alloc: Global) -> Mem<Option<String>>
+        ensures { IfOk result (λ help. help ≡ None) }
+    {
+        Ok(None)
+    }
+
+    /// The places of the kept pieces that have one: none is kept.
+    pub fn spans(&self, alloc: Global) -> Mem<Vec<Span>>
+        ensures { IfOk result (λ spans. spans.items ≡ []) }
+    {
+        Ok(Vec::new(alloc))
+    }
+}
 
 impl Dup for SourceFailed {
     fn dup(&self, _alloc: Global) -> Mem<SourceFailed> {
