@@ -58,11 +58,13 @@ module _ {N M T : Type 0} (shown : N → Option (List ℕ)) (shown' : M → Opti
 pub text_of-annotations : {N : Type 0} (shown : N → Option (List ℕ)) (a : Annotations) → text_of nameless (annotations_pieces a) ≡ text_of shown (annotations_pieces a)
 text_of-annotations shown a = text_of-flat_map nameless shown annotation_pieces annotation_pieces (λ e. refl) (annotation_entries a)
 
+together : (key value : List ℕ) → codes "@" ++ (key ++ (codes "(" ++ ((codes "\"" ++ (value ++ codes "\"")) ++ (codes ")" ++ (codes "\n" ++ []))))) ≡ codes "@" ++ key ++ codes "(\"" ++ value ++ codes "\")\n"
+together key value = simp append_assoc
+
 -- and their text is a line for each
 module _ {N : Type 0} (shown : N → Option (List ℕ)) where
   text_of-annotation : (e : AnyId × Annotation) → text_of shown (annotation_pieces e) ≡ Some (annotation_line e)
-  text_of-annotation e =
-      ap (λ (l : List ℕ). Some (64 ∷ (any_word e.0 ++ 40 ∷ 34 ∷ l))) (append_assoc (escaped e.1.val) (34 ∷ []) (41 ∷ 10 ∷ []))
+  text_of-annotation e = ap Some (together (any_word e.0) (escaped e.1.val))
 
   text_of-entries : (es : List (AnyId × Annotation)) → text_of shown (flat_map annotation_pieces es) ≡ Some (flat_map annotation_line es)
   text_of-entries [] = refl

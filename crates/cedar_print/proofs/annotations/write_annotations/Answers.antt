@@ -7,4 +7,4 @@ use Rattle.cedar_print.proofs.annotations.write_annotations.Goals as goal
 
 pub returns : goal.returns
 returns g c =
-    displays_on_ok_of_eq _ _ _ _ _ _ (sym (text_of-annotation_lines nameless c.args.annotations.now)) c.fmt.ensures
+    displays_on_ok_of_eq _ _ _ _ _ _ (sym (text_of-annotation_lines nameless c.args.annotations.now)) c.fmt.ensures.writes
