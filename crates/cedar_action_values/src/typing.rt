@@ -43,7 +43,8 @@ pub fn attribute_types(alloc: Global, fields: &ValueMap) -> Out<Attributes, Valu
         let name = name.dup(alloc)?;
         types.push_last(name, attribute)?;
     }
-    Ok(Attributes::from_map(types))
+    let attributes = Attributes::from_map(alloc, types)?;
+    Ok(attributes)
 }
 
 /// The type of a value, as that of an attribute that is always there.

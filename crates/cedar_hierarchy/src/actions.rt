@@ -70,7 +70,7 @@ fn context_of(alloc: Global, uid: &EntityUID, uses: &Uses, near: &mut Near) -> M
     match told_context(alloc, uid, uses, near)? {
         Some(ty) => Ok(ty),
         None => {
-            let none = Attributes::from_map(Map::new(alloc));
+            let none = Attributes::none(alloc)?;
             Type::record_with_attributes(alloc, none, OpenTag::ClosedAttributes)
         }
     }

@@ -47,8 +47,6 @@ pub(crate) fn record_at(
             return Ok((attributes.dup(alloc)?, tag));
         }
     }
-    Ok((
-        Attributes::from_map(Map::new(alloc)),
-        OpenTag::ClosedAttributes,
-    ))
+    let none = Attributes::none(alloc)?;
+    Ok((none, OpenTag::ClosedAttributes))
 }

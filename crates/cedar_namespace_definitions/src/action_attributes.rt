@@ -6,6 +6,7 @@ ghost use Rattle.cedar_data.specs.Firsts.{IsFirst};
 ghost use Rattle.cedar_schema_error.specs.FullNames.{uid_in};
 ghost use Rattle.cedar_schema_error.specs.Refusals.{ActionAttributesContainEmptySet, UnsupportedActionAttribute};
 ghost use Rattle.cedar_schema_error.specs.Told.{told};
+ghost use Rattle.cedar_types.specs.Types.{attributes_of};
 ghost use Rattle.cedar_namespace_definitions.specs.Definitions.{types_in};
 ghost use Rattle.cedar_namespace_definitions.specs.Faults.{all_refused, attribute_faults, prohibited, value_refusal, with_attributes};
 
@@ -52,19 +53,22 @@ fn value_error(alloc: Global, uid: &EntityUID, fault: ValueFault) -> Mem<SchemaE
     }
 }
 
-/// The types of the attributes of an action; refused with the first fault in them.
+/// The types of the attributes of an action, which share `none` where it has none; refused with the first fault in them.
 pub(crate) fn types_in(
     alloc: Global,
     uid: &EntityUID,
+    none: &Attributes,
     attributes: &Option<ValueMap>,
 ) -> Out<Attributes, SchemaError>
+    requires { none.now ≡ attributes_of [] }
     ensures types { IfOk result (λ types. types ≡ types_in attributes.now) }
     ensures ok { IfOk result (λ _. attribute_faults (uid_in uid.now) attributes.now ≡ []) }
     ensures refused { IfRefused result
         (λ e. IsFirst (attribute_faults (uid_in uid.now) attributes.now) (told e)) }
 {
     let Some(values) = attributes else {
-        return Ok(Attributes::from_map(Map::new(alloc)));
+        let none = none.dup(alloc)?;
+        return Ok(none);
     };
     match attribute_types(alloc, values) {
         Ok(types) => Ok(types),

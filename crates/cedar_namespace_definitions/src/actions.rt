@@ -12,6 +12,7 @@ ghost use Rattle.cedar_fragment.specs.ActionUids.{over_conditional, over_raw};
 ghost use Rattle.cedar_fragment.specs.Definitions.{through_action};
 ghost use Rattle.cedar_namespace_definitions.specs.Orders.{conditional_cmp, parent_cmp};
 ghost use Rattle.cedar_schema_error.specs.Told.{told};
+ghost use Rattle.cedar_types.specs.Types.{attributes_of};
 ghost use Rattle.cedar_namespace_definitions.specs.Definitions.{action_in, action_made, application_in, applied_in, context_in, distinct_application, no_values, parent_in, parents_in, sure, types_in, with_keys};
 ghost use Rattle.cedar_namespace_definitions.specs.Faults.{action_faults};
 ghost use Rattle.cedar_namespace_definitions.specs.NamesIn.{action_at, action_key, action_key_cmp, action_type_in, reserved_in};
@@ -197,9 +198,11 @@ fn action_id(
 fn action_head(
     alloc: Global,
     step: &Qualifying<'_>,
+    none: &Attributes,
     id: Text,
     action: &ActionType<RawName>,
 ) -> Out<(EntityUID, Attributes), SchemaError>
+    requires { none.now ≡ attributes_of [] }
     ensures key { IfOk result (λ made. action_key made.0
         ≡ action_at (option_copied step.now.namespace) id action.now.loc) }
     ensures types { IfOk result (λ made. made.1 ≡ types_in action.now.attributes) }
@@ -210,7 +213,7 @@ fn action_head(
         (told e)) }
 {
     let uid = action_id(alloc, step, id, action)?;
-    let types = types_in(alloc, &uid, &action.attributes)?;
+    let types = types_in(alloc, &uid, none, &action.attributes)?;
     Ok((uid, types))
 }
 
@@ -269,10 +272,12 @@ fn put_action(
 fn declare_action(
     alloc: Global,
     step: &Qualifying<'_>,
+    none: &Attributes,
     made: &mut Map<EntityUID, ActionFragment<ConditionalName, ConditionalName>>,
     id: Text,
     action: ActionType<RawName>,
 ) -> Out<(), SchemaError>
+    requires { none.now ≡ attributes_of [] }
     ensures puts { OnOk result (with_keys action_key made.new
         ≡ insert_entry action_key_cmp (with_keys action_key made.old)
         (action_in (option_copied step.now.namespace) (id, action)).0
@@ -281,7 +286,7 @@ fn declare_action(
     ensures refused { IfRefused result
         (λ e. IsFirst (action_faults (option_copied step.now.namespace) (id, action)) (told e)) }
 {
-    let (uid, types) = action_head(alloc, step, id, &action)?;
+    let (uid, types) = action_head(alloc, step, none, id, &action)?;
     put_action(alloc, step, made, uid, types, action)?;
     Ok(())
 }
@@ -301,9 +306,10 @@ pub(crate) fn actions_in(
         (λ e. IsFirst (flat_map (action_faults (option_copied step.now.namespace)) actions)
         (told e)) }
 {
+    let none = Attributes::none(alloc)?;
     let mut made = Map::with_room(alloc, actions.len())?;
     for (id, action) in actions.into_entries() {
-        declare_action(alloc, step, &mut made, id, action)?;
+        declare_action(alloc, step, &none, &mut made, id, action)?;
     }
     Ok(ActionsDef { actions: made })
 }

@@ -10,7 +10,7 @@ ghost use Rattle.cedar_resolved.specs.Schemas.{no_attributes, type_attributes, t
 
 use crate::kind::{StandardValidatorEntityType, ValidatorEntityTypeKind};
 use crate::sets::set_of;
-use cedar_data::{Dup, Map, Mem, Set, SetIter, Text, dup_three, dup_two};
+use cedar_data::{Dup, Mem, Set, SetIter, Text, dup_three, dup_two};
 use cedar_names::{EntityType, Loc, NonEmpty};
 use cedar_types::{AttributeType, Attributes, OpenTag, TcNode, Type};
 use std::alloc::Global;
@@ -72,7 +72,7 @@ impl ValidatorEntityType {
         ensures loc { IfOk result (λ ty. ty.loc ≡ loc) }
     {
         let descendants = set_of(alloc, descendants)?;
-        let attributes = Attributes::from_map(Map::new(alloc));
+        let attributes = Attributes::none(alloc)?;
         let kind = ValidatorEntityTypeKind::Enum(values);
         Ok(ValidatorEntityType::from_parts(name, descendants, attributes, kind, loc))
     }
@@ -107,7 +107,7 @@ impl ValidatorEntityType {
         &self.name
     }
 
-    /// The attributes of its entities, none where it lists them.
+    /// The attributes that it was made with, whatever its `kind` is now. One made by `new_enum` has none.
     pub fn attributes(&self) -> &Attributes
         ensures { result.now ≡ type_attributes self.now }
     {

@@ -24,7 +24,7 @@ enum TypeNode {
     Long,
     String,
     Set(Shared<ResolvedType>),
-    Record(Shared<Attributes>, OpenTag),
+    Record(Attributes, OpenTag),
     Entity(EntityType),
     Extension(Name),
 }
@@ -39,11 +39,11 @@ pub struct AttributeType {
     pub is_required: bool,
 }
 
-/// The attributes of a record type, in the order of their names.
+/// The attributes of a record type, in the order of their names. They are shared, so that a copy takes no memory.
 #[cycle(ty)]
 #[derive(Debug, Drop, PartialEq, Eq)]
 pub struct Attributes {
-    map: Map<Text, AttributeType>,
+    map: Shared<Map<Text, AttributeType>>,
 }
 
 /// Whether a record may have attributes beyond those that its type lists.
@@ -117,13 +117,12 @@ impl ResolvedType {
 
     /// Records of the attributes `attrs`, and of others too where `tag` says that they are open.
     pub fn record_with_attributes(
-        alloc: Global,
+        _alloc: Global,
         attrs: Attributes,
         tag: OpenTag,
     ) -> Mem<ResolvedType>
         ensures { IfOk result (λ t. t ≡ record_type attrs tag) }
     {
-        let attrs = Shared::new(alloc, attrs)?;
         Ok(ResolvedType {
             node: TypeNode::Record(attrs, tag),
         })
@@ -133,9 +132,7 @@ impl ResolvedType {
     pub fn any_record(alloc: Global) -> Mem<ResolvedType>
         ensures { IfOk result (λ t. t ≡ record_type (attributes_of []) OpenAttributes) }
     {
-        let attrs = Attributes {
-            map: Map::new(alloc),
-        };
+        let attrs = Attributes::none(alloc)?;
         ResolvedType::record_with_attributes(alloc, attrs, OpenTag::OpenAttributes)
     }
 
@@ -166,7 +163,7 @@ impl ResolvedType {
             TypeNode::Long => TypeView::Long,
             TypeNode::String => TypeView::String,
             TypeNode::Set(element) => TypeView::Set(element.get()),
-            TypeNode::Record(attrs, tag) => TypeView::Record(attrs.get(), *tag),
+            TypeNode::Record(attrs, tag) => TypeView::Record(attrs, *tag),
             TypeNode::Entity(ty) => TypeView::Entity(ty),
             TypeNode::Extension(name) => TypeView::Extension(name),
         }
@@ -181,7 +178,7 @@ impl Attributes {
         ensures ordered { IfOk result (λ attrs. IsSortedMap (slice_cmp nat_cmp) (entries attrs)) }
     {
         let map = Map::from_pairs(alloc, list)?;
-        Ok(Attributes { map })
+        Attributes::from_map(alloc, map)
     }
 
     /// The attributes of the list, all of them required. Of several pairs of one name, the last counts. It fails only
@@ -202,36 +199,43 @@ impl Attributes {
             };
             map.put(name, attribute)?;
         }
+        Attributes::from_map(alloc, map)
+    }
+
+    /// No attributes. It fails only for want of memory.
+    pub fn none(alloc: Global) -> Mem<Attributes>
+        ensures { IfOk result (λ attrs. attrs ≡ attributes_of []) }
+    {
+        Attributes::from_map(alloc, Map::new(alloc))
+    }
+
+    /// The attributes of a map. It fails only for want of memory.
+    pub fn from_map(alloc: Global, map: Map<Text, AttributeType>) -> Mem<Attributes>
+        ensures { IfOk result (λ attrs. attrs ≡ attributes_of map) }
+    {
+        let map = Shared::new(alloc, map)?;
         Ok(Attributes { map })
-    }
-
-    /// The attributes of a map. It takes no memory.
-    pub fn from_map(map: Map<Text, AttributeType>) -> Attributes
-        ensures { result ≡ attributes_of map }
-    {
-        Attributes { map }
-    }
-
-    /// The attributes as a map. It takes no memory.
-    pub fn into_map(self) -> Map<Text, AttributeType>
-        ensures { result ≡ entries self }
-    {
-        let Attributes { map } = self;
-        map
     }
 
     /// The attribute with the bytes of `name`, if there is one.
     pub fn get_attr(&self, name: &str) -> Option<&AttributeType>
         ensures { option_copied result ≡ get_text (entries self.now) name.now }
     {
-        self.map.get_text(name)
+        self.map.get().get_text(name)
+    }
+
+    /// The attribute of this name, if there is one, found by a search in the order of the names.
+    pub fn find(&self, name: &Text) -> Option<&AttributeType>
+        ensures { option_copied result ≡ get_text (entries self.now) name.now }
+    {
+        self.map.get().get(name)
     }
 
     /// How many attributes there are.
     pub fn len(&self) -> usize
         ensures { result ≡ length (entries self.now) }
     {
-        self.map.len()
+        self.map.get().len()
     }
 
     /// The attributes by name, in the order of the names.
@@ -239,7 +243,7 @@ impl Attributes {
         ensures rest { result ≡ entries self.now }
         ensures ordered { IsSortedMap (slice_cmp nat_cmp) (entries self.now) }
     {
-        self.map.iter()
+        self.map.get().iter()
     }
 }
 

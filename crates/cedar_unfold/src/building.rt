@@ -81,7 +81,7 @@ impl Nested {
         if depth >= DEEPEST {
             return Ok(None);
         }
-        let attributes = Attributes::from_map(attributes);
+        let attributes = Attributes::from_map(alloc, attributes)?;
         Ok(Some(Nested {
             ty: Type::record_with_attributes(alloc, attributes, OpenTag::ClosedAttributes)?,
             depth: depth + 1,
