@@ -1,6 +1,6 @@
 // SPDX-License-Identifier: Apache-2.0
 use crate::steps::Steps;
-use cedar_data::Text;
+use cedar_data::{Near, Text};
 use cedar_names::{InternalName, UnreservedId};
 use std::sync::ledger::Ledger;
 
@@ -51,8 +51,8 @@ pub trait TypeNode: Sized {
         ensures counts { steps.new ≡ steps.old + 1 };
 
     /// The attribute that follows the name in the order of names, or the first one: its name, its type, and whether it
-    /// is required. Only of a record.
-    fn next_attribute(&self, after: Option<&Text>) -> Option<(&Text, &Self, bool)>
+    /// is required. Only of a record. The search begins where the last one ended, which `near` tells.
+    fn next_attribute(&self, near: &mut Near, after: Option<&Text>) -> Option<(&Text, &Self, bool)>
         requires { IsRecord (written self.now) }
         ensures next { option_map (λ a. (a.0.now, written a.1.now, a.2)) result
             ≡ next_attribute (option_copied after.entry) (attributes_of (written self.now)) }

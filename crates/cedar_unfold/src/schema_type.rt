@@ -2,7 +2,7 @@
 use crate::entries::next_entry;
 use crate::node::{Looked, TypeNode};
 use crate::steps::Steps;
-use cedar_data::Text;
+use cedar_data::{Near, Text};
 use cedar_names::InternalName;
 use cedar_schema_error::{SchemaType, TypeVariant};
 use std::sync::ledger::Ledger;
@@ -34,6 +34,7 @@ impl TypeNode for SchemaType<InternalName> {
 
     fn next_attribute(
         &self,
+        near: &mut Near,
         after: Option<&Text>,
     ) -> Option<(&Text, &SchemaType<InternalName>, bool)> {
         let SchemaType::Variant { ty, .. } = self else {
@@ -42,7 +43,7 @@ impl TypeNode for SchemaType<InternalName> {
         let TypeVariant::Record(fields) = ty else {
             unreachable!()
         };
-        match next_entry(&fields.attributes, after) {
+        match next_entry(&fields.attributes, near, after) {
             Some((name, attribute)) => Some((name, &attribute.ty, attribute.required)),
             None => None,
         }

@@ -18,7 +18,7 @@ use crate::faults::{Fault, note_entity, note_extension, note_no_common, note_rec
 use crate::keys::place_of;
 use crate::node::{Looked, TypeNode};
 use crate::steps::Steps;
-use cedar_data::{Items, Map, Mem};
+use cedar_data::{Items, Map, Mem, Near};
 use cedar_names::{Extensions, InternalName};
 use std::alloc::Global;
 use std::sync::ledger::Ledger;
@@ -115,8 +115,9 @@ fn survey_record<T: TypeNode, L: Ledger>(
     ensures counts { steps.new ≤ steps.old + attribute_nodes
         (attributes_of (T.written record_type.now)) }
 {
+    let mut near = Near::first();
     let mut after = None;
-    while let Some((name, part, _)) = record_type.next_attribute(after) {
+    while let Some((name, part, _)) = record_type.next_attribute(&mut near, after) {
         survey(alloc, part, keys, extensions, row, fault, steps)?;
         after = Some(name);
     }

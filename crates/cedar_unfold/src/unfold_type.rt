@@ -16,7 +16,7 @@ use crate::faults::{Fault, note_entity, note_extension, note_no_common, note_rec
 use crate::nested::Nested;
 use crate::node::{Looked, TypeNode};
 use crate::steps::Steps;
-use cedar_data::{Dup, Map, Mem};
+use cedar_data::{Dup, Map, Mem, Near};
 use cedar_names::{Extensions, InternalName};
 use cedar_types::Type;
 use std::alloc::Global;
@@ -96,8 +96,9 @@ fn unfolded_record<T: TypeNode, L: Ledger>(
     let mut made = Map::with_room(alloc, record_type.room())?;
     let mut depth: usize = 0;
     let mut is_whole = true;
+    let mut near = Near::first();
     let mut after = None;
-    while let Some((name, part, required)) = record_type.next_attribute(after) {
+    while let Some((name, part, required)) = record_type.next_attribute(&mut near, after) {
         after = Some(name);
         match unfolded(alloc, part, extensions, table, fault, steps)? {
             Some(part) => {
