@@ -2,6 +2,7 @@
 pub mod Told
 pub mod Rows
 pub mod Needs
+pub mod Choices
 pub mod Each
 pub mod Found
 pub mod TypeLoops

@@ -4,6 +4,7 @@ pub mod of_checks
 pub mod BreakChecks
 pub mod Changes
 pub mod Checks
+pub mod Choices
 pub mod Compatible
 pub mod FaultPlaces
 pub mod FaultTexts

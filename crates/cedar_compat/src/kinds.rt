@@ -1,43 +1,41 @@
 // SPDX-License-Identifier: Apache-2.0
-ghost use Rattle.std.specs.Prelude.{◌≡◌};
+ghost use Rattle.std.specs.Prelude.{◌≡◌, IfOk};
 ghost use Rattle.std.specs.Option.{option_copied, option_map};
 ghost use Rattle.cedar_text.specs.Lists.{elements};
-ghost use Rattle.cedar_text.specs.Words.{has_word};
 ghost use Rattle.cedar_checks.specs.SchemaViews.{entity_of};
 ghost use Rattle.cedar_unfold.specs.ResolvedViews.{resolved};
 ghost use Rattle.cedar_compat.specs.BreakChecks.{choice_check, each, kind_check, tags_check};
 ghost use Rattle.cedar_compat.specs.Changes.{break_of};
 ghost use Rattle.cedar_compat.specs.Checks.{Tells};
+ghost use Rattle.cedar_compat.specs.Choices.{AreChoices, searched_check};
 
 use crate::broken::{Broken, refuse, under};
 use crate::kind::CompatKind;
 use crate::records::check_none_required;
 use crate::types::{check_record, check_type};
-use cedar_data::{Dup, Out, Text};
+use cedar_data::{Dup, Mem, Out, Set, Text};
 use cedar_resolved::{ValidatorEntityType, ValidatorEntityTypeKind};
 use cedar_text::NonEmpty;
 use cedar_types::Type;
 use std::alloc::Global;
 
-/// Whether the id is one of these.
-fn is_one_of(ids: &[Text], id: &str) -> bool
-    ensures { result ≡ has_word ids.now id.now }
+/// The choices in order, to search in.
+#[tactic(auto, using(crate::proofs::Choices::choices))]
+fn choices_in_order(alloc: Global, choices: &NonEmpty<Text>) -> Mem<Set<Text>>
+    ensures { IfOk result (AreChoices (elements choices.now)) }
 {
-    ids.iter().any(|choice| id == choice.as_str())
-}
-
-/// Whether the id is one of these choices.
-fn is_choice(ids: &NonEmpty<Text>, id: &str) -> bool
-    ensures { result ≡ has_word (elements ids.now) id.now }
-{
-    id == ids.first().as_str() || is_one_of(ids.tail.as_slice(), id)
+    let mut ids = Set::new(alloc);
+    for id in choices.iter() {
+        ids.insert(id.dup(alloc)?)?;
+    }
+    Ok(ids)
 }
 
 /// Refuses new choices that lack this one.
-fn check_choice(alloc: Global, id: &Text, new: &NonEmpty<Text>) -> Out<(), Broken>
-    ensures { Tells break_of result (choice_check (elements new.now) id.now) }
+fn check_choice(alloc: Global, id: &Text, new: &Set<Text>) -> Out<(), Broken>
+    ensures { Tells break_of result (searched_check new.now id.now) }
 {
-    if is_choice(new, id.as_str()) {
+    if new.contains(id) {
         return Ok(());
     }
     let id = id.dup(alloc)?;
@@ -50,8 +48,9 @@ fn check_choices(alloc: Global, old: &NonEmpty<Text>, new: &NonEmpty<Text>) -> O
     ensures { Tells break_of result
         (each (choice_check (elements new.now)) (elements old.now)) }
 {
+    let ids = choices_in_order(alloc, new)?;
     for id in old.iter() {
-        check_choice(alloc, id, new)?;
+        check_choice(alloc, id, &ids)?;
     }
     Ok(())
 }

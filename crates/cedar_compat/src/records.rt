@@ -16,10 +16,10 @@ use std::alloc::Global;
 
 /// Whether there is an attribute of this name, and it is required.
 #[tactic(auto, using(crate::proofs::Rows::named))]
-fn needs(attributes: &Attributes, name: &str) -> bool
+fn needs(attributes: &Attributes, name: &Text) -> bool
     ensures { result ≡ widening.needs (resolved_map (entries attributes.now)) name.now }
 {
-    match attributes.get_attr(name) {
+    match attributes.find(name) {
         Some(found) => found.is_required,
         None => false,
     }
@@ -53,7 +53,7 @@ fn check_needed(alloc: Global, old: &Attributes, name: &Text, is_required: bool)
     ensures { Tells break_of result
         (needed_check (resolved_map (entries old.now)) name.now is_required) }
 {
-    if needs(old, name.as_str()) {
+    if needs(old, name) {
         return Ok(());
     }
     check_optional(alloc, name, is_required)

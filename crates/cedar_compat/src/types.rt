@@ -141,7 +141,7 @@ fn check_attribute(
         (attribute_check name.now (type_check (resolved attribute.now.attr_type))
         (attribute_named (resolved_map (entries new.now)) name.now)) }
 {
-    match new.get_attr(name.as_str()) {
+    match new.find(name) {
         Some(found) => under(
             alloc,
             name.as_str(),
