@@ -78,10 +78,10 @@ fn check_name(alloc: Global, key: &str, attributes: &Attributes) -> Out<(), Faul
     ensures { Tells passed result
         (name_known_check (resolved_map (entries attributes.now)) key.now) }
 {
-    if has_attribute(attributes, key) {
+    let name = Text::new(alloc, key)?;
+    if has_attribute(attributes, &name) {
         return Ok(());
     }
-    let name = Text::new(alloc, key)?;
     refuse(alloc, FaultKind::UnknownAttribute { name })
 }
 
@@ -116,10 +116,10 @@ fn check_names(alloc: Global, value: &Value, attributes: &Attributes) -> Out<(),
 
 /// Whether there is an attribute of this name.
 #[tactic(auto, using(crate::proofs::Rows::names))]
-fn has_attribute(attributes: &Attributes, name: &str) -> bool
+fn has_attribute(attributes: &Attributes, name: &Text) -> bool
     ensures { result ≡ fits.has_attribute (resolved_map (entries attributes.now)) name.now }
 {
-    attributes.get_attr(name).is_some()
+    attributes.find(name).is_some()
 }
 
 /// Refuses a value that doesn't fit the type.
