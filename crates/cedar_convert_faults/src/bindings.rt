@@ -25,6 +25,12 @@ pub enum Kind {
     CommonType,
 }
 
+impl Dup for Kind {
+    fn dup(&self, _alloc: Global) -> Mem<Kind> {
+        Ok(*self)
+    }
+}
+
 /// Puts the names of this kind that a declaration gives behind the others.
 fn add_names(
     alloc: Global,

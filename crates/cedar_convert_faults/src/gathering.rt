@@ -3,7 +3,7 @@ ghost use Rattle.std.specs.Prelude.{◌≡◌, [], ◌∷◌, ◌++◌, map, IfO
 ghost use Rattle.cedar_tree.specs.Meanings.{schema_tree, annotated_tree, node_of, decl_tree};
 ghost use Rattle.cedar_convert_faults.specs.Gathering.{namespaces_of, named_namespaces, loose_declarations, gathered_tree, unnamed};
 
-use cedar_data::{Items, Mem};
+use cedar_data::{Dup, Items, Mem};
 use cedar_text::Node;
 use cedar_tree::{Annotated, Annotations, Declaration, Namespace, Path, Schema};
 use std::alloc::Global;
@@ -14,6 +14,19 @@ pub struct Gathered {
     pub name: Option<Path>,
     pub annotations: Annotations,
     pub decls: Items<Annotated<Node<Declaration>>>,
+}
+
+impl Dup for Gathered {
+    fn dup(&self, alloc: Global) -> Mem<Gathered> {
+        let name = self.name.dup(alloc)?;
+        let annotations = self.annotations.dup(alloc)?;
+        let decls = self.decls.dup(alloc)?;
+        Ok(Gathered {
+            name,
+            annotations,
+            decls,
+        })
+    }
 }
 
 /// The named namespaces in the order of the text, and then one of all declarations that stand in none, if there are any.

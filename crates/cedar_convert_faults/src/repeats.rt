@@ -17,6 +17,19 @@ pub struct Repeat {
     pub second: Loc,
 }
 
+impl Dup for Repeat {
+    fn dup(&self, alloc: Global) -> Mem<Repeat> {
+        let name = self.name.dup(alloc)?;
+        let first = self.first.dup(alloc)?;
+        let second = self.second.dup(alloc)?;
+        Ok(Repeat {
+            name,
+            first,
+            second,
+        })
+    }
+}
+
 /// Among so many names one is found by a look at each.
 pub(crate) const FEW: usize = 16;
 

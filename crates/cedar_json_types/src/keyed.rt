@@ -11,7 +11,7 @@ ghost use Rattle.cedar_json_types.specs.Keys as keys;
 ghost use Rattle.cedar_json_types.specs.Shapes.{Keyed, KeysWithin, Lacks};
 
 use crate::refusing::{unknown, wrong_type};
-use cedar_data::Out;
+use cedar_data::{Dup, Mem, Out};
 use cedar_json_fault::{JsonDeserializationError, JsonKind, JsonShape};
 use serde_json::{Map, Value};
 use std::alloc::Global;
@@ -35,6 +35,12 @@ pub enum KeySet {
     CommonType,
     /// The type of an attribute.
     Attribute,
+}
+
+impl Dup for KeySet {
+    fn dup(&self, _alloc: Global) -> Mem<KeySet> {
+        Ok(*self)
+    }
 }
 
 /// Whether an object of this kind may have the key.

@@ -2,6 +2,9 @@
 ghost use Rattle.std.specs.Prelude.{◌≡◌};
 ghost use Rattle.cedar_json_types.specs.Types as types;
 
+use cedar_data::{Dup, Mem};
+use std::alloc::Global;
+
 /// What the key `type` says.
 #[derive(Clone, Copy, Debug, PartialEq, Eq)]
 pub enum TypeWord {
@@ -23,6 +26,12 @@ pub enum TypeWord {
     Extension,
     /// The common type of that name.
     Other,
+}
+
+impl Dup for TypeWord {
+    fn dup(&self, _alloc: Global) -> Mem<TypeWord> {
+        Ok(*self)
+    }
 }
 
 /// What the text at the key `type` says.
