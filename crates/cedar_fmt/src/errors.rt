@@ -25,7 +25,8 @@ pub enum ToCedarSchemaSyntaxError {
 /// Names that stand for both an entity type and a common type.
 #[derive(Debug, Drop)]
 pub struct NameCollisionsError {
-    pub(crate) names: NonEmpty<InternalName>,
+    /// All of them, in order.
+    pub names: NonEmpty<InternalName>,
 }
 
 impl NameCollisionsError {
