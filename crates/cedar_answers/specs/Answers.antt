@@ -11,9 +11,9 @@ pub record Sunk : Type 0 where
   pub bytes : Option (List ℕ)
   pub faults : ℕ
 
--- writing a text that is due: it is written, or the sink failed and took a front of it
+-- writing a text that is due: it is written and the sink didn't fail, or the sink failed and took a front of it
 abbrev pub Puts : List ℕ → Sunk → Sunk → Status → Type 0
-Puts due before after Done = Takes before.bytes after.bytes due
+Puts due before after Done = Takes before.bytes after.bytes due × (after.faults ≡ before.faults)
 Puts due before after WriteFault = TakesFront before.bytes after.bytes due × Rose before.faults after.faults
 Puts due before after Refused = ⊥
 Puts due before after Usage = ⊥
@@ -22,9 +22,9 @@ Puts due before after NotUtf8 = ⊥
 Puts due before after TooLong = ⊥
 Puts due before after NoMemory = ⊥
 
--- writing a refusal that tells this: it is written, or the sink failed and took a front of it, or there was no memory for it
+-- writing a refusal that tells this: it is written and the sink didn't fail, or the sink failed and took a front of it, or there was no memory for it
 abbrev pub Rejects : List ℕ → Sunk → Sunk → Status → Type 0
-Rejects told before after Refused = Takes before.bytes after.bytes told
+Rejects told before after Refused = Takes before.bytes after.bytes told × (after.faults ≡ before.faults)
 Rejects told before after WriteFault = TakesFront before.bytes after.bytes told × Rose before.faults after.faults
 Rejects told before after NoMemory = after ≡ before
 Rejects told before after Done = ⊥

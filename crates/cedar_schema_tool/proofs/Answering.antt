@@ -81,8 +81,8 @@ module _ (words : List (List ℕ)) (command : Command) (x : Extensions) (found :
     -- what is written of it, or that memory failed
     pub text-runs : (status : Status) → AnswersText command text (extension_words x) (out_of before) (out_of after) (err_of before) (err_of after) status
         → Runs words before after status
-    text-runs Done a = (a.0, (command, text, extension_words x, works, a.1), a.2, same_sunk a.3)
-    text-runs Refused a = (a.0, (command, text, extension_words x, works, a.1), a.2, same_sunk a.3)
+    text-runs Done a = (a.0, (command, text, extension_words x, works, a.1), a.2.0, a.2.1, same_sunk a.3)
+    text-runs Refused a = (a.0, (command, text, extension_words x, works, a.1), a.2.0, a.2.1, same_sunk a.3)
     text-runs WriteFault (inl a) = inl (a.0, (command, text, extension_words x, works, a.1), a.2.0, a.2.1, same_sunk a.3)
     text-runs WriteFault (inr a) = inr (a.0, (command, text, extension_words x, works, a.1), a.2.0, a.2.1, same_sunk a.3)
     text-runs NoMemory a = (same_sunk a.0, same_sunk a.1)

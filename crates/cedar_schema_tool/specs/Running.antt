@@ -122,10 +122,10 @@ Runs words before after TooLong = AskToRead words × ReadTooMuch before after ×
 Runs words before after NotUtf8 = AskToRead words × (bytes : List ℕ) × Reads before after bytes × (IsUtf8 bytes → ⊥) × SameOut before after × SameErr before after
 -- want of memory
 Runs words before after NoMemory = SameOut before after × SameErr before after
--- the text is refused, and the refusal stands on `err`
-Runs words before after Refused = (told : List ℕ) × IsTold words before after told × Takes before.err after.err told × SameOut before after
--- the text is accepted, and what is due stands on `out`
-Runs words before after Done = (due : List ℕ) × IsDue words before after due × Takes before.out after.out due × SameErr before after
+-- the text is refused, and the refusal stands on `err`, which didn't fail
+Runs words before after Refused = (told : List ℕ) × IsTold words before after told × Takes before.err after.err told × (after.err_faults ≡ before.err_faults) × SameOut before after
+-- the text is accepted, and what is due stands on `out`, which didn't fail
+Runs words before after Done = (due : List ℕ) × IsDue words before after due × Takes before.out after.out due × (after.out_faults ≡ before.out_faults) × SameErr before after
 -- the sink of the due text failed, and took a front of it
 Runs words before after WriteFault =
     ((due : List ℕ) × IsDue words before after due × TakesFront before.out after.out due × Rose before.out_faults after.out_faults × SameErr before after)
