@@ -97,7 +97,8 @@ fn write_conflict<W: fmt::Write>(
     key: &AnyId,
     f: &mut fmt::Formatter<W>,
 ) -> fmt::Result
-    ensures { WritesOnOk W.write_str_gives f.old result (conflict_text namespace.now key.now) f.new }
+    ensures { WritesOnOk W.write_str_gives f.old result (conflict_text namespace.now key.now)
+        f.new }
 {
     write!(f, "annotation `{key}` of namespace `{namespace}` differs")
 }

@@ -99,7 +99,8 @@ fn declare_with(
 ) -> Out<Declarations, SchemaError>
     requires { SameNames (names_of own)
         (declared_names (flat_map definitions_of fragments.items)) }
-    ensures passes { IfOk result (λ _. Passes (world_of fragments.items extensions.now) Shadowing) }
+    ensures passes { IfOk result
+        (λ _. Passes (world_of fragments.items extensions.now) Shadowing) }
     ensures holds { IfOk result
         (λ d. Holds (world_of fragments.items extensions.now) d.all_defs
         (definitions_of d.definitions) extensions.now) }
@@ -124,7 +125,8 @@ pub(crate) fn declare(
     fragments: Vec<Fragment>,
     extensions: &Extensions,
 ) -> Out<Declarations, SchemaError>
-    ensures passes { IfOk result (λ _. Passes (world_of fragments.items extensions.now) Shadowing) }
+    ensures passes { IfOk result
+        (λ _. Passes (world_of fragments.items extensions.now) Shadowing) }
     ensures holds { IfOk result
         (λ d. Holds (world_of fragments.items extensions.now) d.all_defs
         (definitions_of d.definitions) extensions.now) }
