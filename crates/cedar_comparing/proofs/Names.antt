@@ -14,15 +14,20 @@ use Rattle.cedar_names.specs.Identifiers.{any_word, unreserved_word}
 use Rattle.cedar_names.specs.declared.annotation.Annotation.{Annotation}
 use Rattle.cedar_names.specs.declared.annotation.Annotations.{Annotations}
 use Rattle.cedar_names.specs.declared.any_id.AnyId.{AnyId}
+use Rattle.cedar_names.specs.EntityUids.{entity_uid}
+use Rattle.cedar_names.specs.declared.entity_uid.Eid.{Eid}
 use Rattle.cedar_names.specs.declared.id.Id.{Id}
 use Rattle.cedar_names.specs.declared.id.UnreservedId.{UnreservedId}
 use Rattle.cedar_names.specs.declared.internal_name.InternalName.{InternalName}
+use Rattle.cedar_names.specs.declared.name.EntityType as named
 use Rattle.cedar_names.specs.declared.name.Name.{Name}
 use Rattle.cedar_names.specs.contracts.annotation.AnnotationPartialEq.TheImpl as note_eqs
 use Rattle.cedar_names.specs.contracts.annotation.AnnotationsPartialEq.TheImpl as annotations_eqs
 use Rattle.cedar_names.specs.contracts.any_id.AnyIdPartialEq.TheImpl as any_eqs
 use Rattle.cedar_names.specs.contracts.id.UnreservedIdPartialEq.TheImpl as id_eqs
 use Rattle.cedar_names.specs.contracts.internal_name.InternalNamePartialEq.TheImpl as internal_eqs
+use Rattle.cedar_names.specs.contracts.entity_uid.EntityUIDPartialEq.TheImpl as uid_eqs
+use Rattle.cedar_names.specs.contracts.name.EntityTypePartialEq.TheImpl as entity_eqs
 use Rattle.cedar_names.specs.contracts.name.NamePartialEq.TheImpl as path_eqs
 use Rattle.cedar_written.specs.Possibilities.{kind_of, possibilities_of, raw_name, raw_of, reference, written}
 use Rattle.cedar_written.specs.declared.reference_type.ReferenceType.{ReferenceType}
@@ -32,7 +37,7 @@ use Rattle.cedar_written.specs.contracts.reference_type.ReferenceTypePartialEq.T
 use Rattle.cedar_written.specs.contracts.reference_type.ReferenceTypeEq.TheImpl.Laws as place_equivalence
 use Rattle.cedar_written.specs.contracts.raw_name.RawNamePartialEq.TheImpl as raw_eqs
 use Rattle.cedar_comparing.specs.Comparing.{GoesBy}
-use Rattle.cedar_comparing.specs.Unplaced.{annotations_unplaced, conditional_unplaced, internal_unplaced, note_unplaced, path_unplaced, raw_unplaced}
+use Rattle.cedar_comparing.specs.Unplaced.{annotations_unplaced, conditional_unplaced, entity_name_unplaced, entity_uid_unplaced, internal_unplaced, note_unplaced, path_unplaced, raw_unplaced}
 use Rattle.cedar_comparing.proofs.Parts.{both, entries_go, lists_go, texts_go}
 
 pub ids_go : GoesBy id_eqs.ghosts.eq (λ (id : UnreservedId). id)
@@ -93,6 +98,21 @@ pub paths_go : GoesBy path_eqs.ghosts.eq path_unplaced
 paths_go = record {
   itself = λ n. internals_go.itself n.internal;
   alone = λ m n h. path_same (internal_unplaced m.internal) (internal_unplaced n.internal) m.unreserved n.unreserved (internals_go.alone m.internal n.internal h);
+}
+
+pub entity_names_go : GoesBy entity_eqs.ghosts.eq entity_name_unplaced
+entity_names_go = record {
+  itself = λ ty. paths_go.itself ty.name;
+  alone = λ a b h. ap (λ (n : Name). let t : named.EntityType = record { name = n } in t) (paths_go.alone a.name b.name h);
+}
+
+pub entity_uids_go : GoesBy uid_eqs.ghosts.eq entity_uid_unplaced
+entity_uids_go = record {
+  itself = λ uid. both (entity_names_go.itself uid.ty) (texts_go.itself uid.eid.text);
+  alone = λ a b h.
+      let types = entity_names_go.alone a.ty b.ty (first_so _ _ h) in
+      let ids = texts_go.alone a.eid.text b.eid.text (second_so (entity_eqs.ghosts.eq a.ty b.ty) _ h) in
+      λ i. entity_uid (types i) (let id : Eid = record { text = ids i } in id) None;
 }
 
 pub raws_go : GoesBy raw_eqs.ghosts.eq raw_unplaced

@@ -7,7 +7,10 @@ use Rattle.cedar_names.specs.Annotating.{annotation_entries}
 use Rattle.cedar_names.specs.Components.{basename_of, internal_name, namespace_of}
 use Rattle.cedar_names.specs.declared.annotation.Annotation.{Annotation}
 use Rattle.cedar_names.specs.declared.annotation.Annotations.{Annotations}
+use Rattle.cedar_names.specs.EntityUids.{entity_uid}
+use Rattle.cedar_names.specs.declared.entity_uid.EntityUID.{EntityUID}
 use Rattle.cedar_names.specs.declared.internal_name.InternalName.{InternalName}
+use Rattle.cedar_names.specs.declared.name.EntityType as named
 use Rattle.cedar_names.specs.declared.name.Name.{Name}
 use Rattle.cedar_written.specs.Possibilities.{kind_of, possibilities_of, raw_name, raw_of, reference, written}
 use Rattle.cedar_written.specs.WrittenTypes.{TypeLayer, VariantLayer}
@@ -41,6 +44,14 @@ internal_unplaced n = internal_name (basename_of n) (namespace_of n) None
 -- the name of a namespace
 abbrev pub path_unplaced : Name → Name
 path_unplaced n = record { internal = internal_unplaced n.internal; unreserved = n.unreserved }
+
+-- the name of an entity type
+abbrev pub entity_name_unplaced : named.EntityType → named.EntityType
+entity_name_unplaced ty = record { name = path_unplaced ty.name }
+
+-- the id of an entity or of an action
+abbrev pub entity_uid_unplaced : EntityUID → EntityUID
+entity_uid_unplaced uid = entity_uid (entity_name_unplaced uid.ty) uid.eid None
 
 -- a name as it is written
 abbrev pub raw_unplaced : RawName → RawName

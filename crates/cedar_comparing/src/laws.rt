@@ -2,7 +2,7 @@
 ghost use Rattle.std.specs.Prelude.{◌≡◌, ◌↔◌, Some, IsTrue};
 ghost use Rattle.std.specs.declared.cmp.Ordering.TheVariants.{Equal};
 ghost use Rattle.cedar_comparing.specs.Comparing.{GoesAlong, GoesBy, OrdersAlong, OrdersBy};
-ghost use Rattle.cedar_comparing.specs.Unplaced.{conditional_unplaced, internal_unplaced, path_unplaced, raw_unplaced};
+ghost use Rattle.cedar_comparing.specs.Unplaced.{conditional_unplaced, entity_name_unplaced, entity_uid_unplaced, internal_unplaced, path_unplaced, raw_unplaced};
 ghost use Rattle.cedar_comparing.specs.Unplaced.{attribute_unplaced, record_unplaced, shape_unplaced, type_unplaced, variant_unplaced};
 ghost use Rattle.cedar_comparing.specs.Unplaced.{common_unplaced, entity_unplaced, kind_unplaced, standard_unplaced};
 ghost use Rattle.cedar_comparing.specs.Unplaced.{action_unplaced, apply_unplaced, fragment_unplaced, namespace_unplaced, uid_unplaced};
@@ -12,13 +12,16 @@ use cedar_fragment::{
     EntityType, EntityTypeKind, Fragment, NamespaceDefinition, RawName, RecordType, RefName,
     SchemaType, StandardEntityType, TypeOfAttribute, TypeVariant,
 };
-use cedar_names::{InternalName, Name};
+use cedar_names::{EntityType as EntityTypeName, EntityUID, InternalName, Name};
 use std::hash::Hash;
 
-/// A law with no work to do: equality of names leaves their places out, and nothing else.
+/// A law with no work to do: equality of names, and of the ids of entities and actions, leaves their places out, and
+/// nothing else.
 pub fn names_leave_places_out()
     ensures internal { GoesBy ⟦<InternalName as PartialEq>⟧.eq internal_unplaced }
     ensures path { GoesBy ⟦<Name as PartialEq>⟧.eq path_unplaced }
+    ensures entity_type { GoesBy ⟦<EntityTypeName as PartialEq>⟧.eq entity_name_unplaced }
+    ensures uid { GoesBy ⟦<EntityUID as PartialEq>⟧.eq entity_uid_unplaced }
     ensures raw { GoesBy ⟦<RawName as PartialEq>⟧.eq raw_unplaced }
     ensures conditional { GoesBy ⟦<ConditionalName as PartialEq>⟧.eq conditional_unplaced }
 {}

@@ -11,7 +11,7 @@ use Rattle.cedar_data.specs.Sets.{contains, Adds}
 use Rattle.cedar_text.specs.Words.{has_word}
 use Rattle.cedar_compat.specs.BreakChecks.{choice_check, each}
 use Rattle.cedar_compat.specs.Changes.{choice_removed}
-use Rattle.cedar_compat.specs.Checks.{Check, here}
+use Rattle.cedar_compat.specs.Checks.{here}
 use Rattle.cedar_compat.specs.Choices.{AreChoices, searched_check}
 
 -- what the set has, with those that are left, are the choices

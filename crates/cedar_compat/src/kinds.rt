@@ -44,15 +44,22 @@ fn check_choice(alloc: Global, id: &Text, new: &Set<Text>) -> Out<(), Broken>
 
 /// Refuses new choices that lack an old one.
 #[tactic(auto, using(crate::proofs::Each::each_passes))]
+fn check_each_choice(alloc: Global, old: &NonEmpty<Text>, new: &Set<Text>) -> Out<(), Broken>
+    ensures { Tells break_of result (each (searched_check new.now) (elements old.now)) }
+{
+    for id in old.iter() {
+        check_choice(alloc, id, new)?;
+    }
+    Ok(())
+}
+
+/// The same of new choices as they are listed.
 fn check_choices(alloc: Global, old: &NonEmpty<Text>, new: &NonEmpty<Text>) -> Out<(), Broken>
     ensures { Tells break_of result
         (each (choice_check (elements new.now)) (elements old.now)) }
 {
-    let ids = choices_in_order(alloc, new)?;
-    for id in old.iter() {
-        check_choice(alloc, id, &ids)?;
-    }
-    Ok(())
+    let new = choices_in_order(alloc, new)?;
+    check_each_choice(alloc, old, &new)
 }
 
 /// Refuses a new type of tags that the old one doesn't widen to, and that there is none any more.

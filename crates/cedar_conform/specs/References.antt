@@ -1,6 +1,11 @@
 -- SPDX-License-Identifier: Apache-2.0
 -- References to entities in JSON, and what a schema knows of the entities that they name.
 use Rattle.std.specs.Prelude.{◌≡◌, ◌⊎◌, ℕ, Bool, true, List, [], ◌∷◌, codes, Some, None}
+use Rattle.cedar_names.specs.Components.{loc_of}
+use Rattle.cedar_names.specs.EntityUids.{entity_type_of, place_of}
+use Rattle.cedar_names.specs.Names.{internal_of, name_of}
+use Rattle.cedar_names.specs.declared.entity_uid.EntityUID.{EntityUID}
+use Rattle.cedar_names.specs.declared.name.EntityType.{EntityType}
 use Rattle.cedar_text.specs.Faults.{no_unreserved_id}
 use Rattle.cedar_text.specs.NormalNames.{name_fault, parts}
 use Rattle.cedar_text.specs.Words.{has_word}
@@ -16,6 +21,10 @@ use Rattle.cedar_checks.specs.Lookups.{declared_type}
 -- the keys of a reference
 abbrev pub reference_keys : List (List ℕ)
 reference_keys = codes "type" ∷ codes "id" ∷ []
+
+-- the name of the entity type has no place
+abbrev pub IsPlaceless : EntityType → Type 0
+IsPlaceless ty = loc_of (internal_of (name_of ty)) ≡ None
 
 -- the value is the text of a name of these components
 abbrev pub IsNameOf : FullName → Data → Type 0
@@ -36,6 +45,10 @@ escape d = object (member (codes "__entity") d no_members)
 -- the value refers to the entity, plainly or as an escape
 abbrev pub IsReference : Data → Uid → Type 0
 IsReference d u = IsPlain d u ⊎ ((e : Data) × (d ≡ escape e) × IsPlain e u)
+
+-- neither the entity nor its type has a place
+abbrev pub IsNowhere : EntityUID → Type 0
+IsNowhere uid = (place_of uid ≡ None) × IsPlaceless (entity_type_of uid)
 
 -- ---- what a schema knows
 

@@ -1,17 +1,18 @@
 // SPDX-License-Identifier: Apache-2.0
-ghost use Rattle.std.specs.Prelude.{◌≡◌, None, codes, IfOk};
+ghost use Rattle.std.specs.Prelude.{◌≡◌, Some, codes, IfOk};
 ghost use Rattle.std.specs.Option.{option_map};
 ghost use Rattle.serde_json.specs.View.{view};
 ghost use Rattle.cedar_text.specs.Failures.{IfRefused};
 ghost use Rattle.cedar_text.specs.Faults.{no_unreserved_id};
 ghost use Rattle.cedar_text.specs.Words.{has_word};
 ghost use Rattle.cedar_text.specs.NormalNames.{name_fault};
-ghost use Rattle.cedar_names.specs.EntityUids.{place_of};
+ghost use Rattle.cedar_names.specs.EntityUids.{entity_type_of};
 ghost use Rattle.cedar_names.specs.Names.{entity_words};
+ghost use Rattle.cedar_resolved.specs.Schemas.{type_at};
 ghost use Rattle.cedar_schema_error.specs.FullNames.{Uid, uid_in};
 ghost use Rattle.cedar_checks.specs.SchemaViews.{entity_of, schema_in};
 ghost use Rattle.cedar_conform.specs.Checks.{IsMissing, Tells, needs, passed};
-ghost use Rattle.cedar_conform.specs.References.{IsReference, may_have};
+ghost use Rattle.cedar_conform.specs.References.{IsNowhere, IsPlaceless, IsReference, may_have};
 ghost use Rattle.cedar_conform.specs.ValueChecks.{choice_check, entity_check, known_check, name_check, named, only_entity, plain_check, reference_check, same_type, text_check};
 
 use crate::keys::{Keyed, check_keys};
@@ -26,8 +27,9 @@ use std::alloc::Global;
 
 /// The entity type that the text names.
 fn type_named(alloc: Global, text: &str) -> Out<EntityType, Fault>
-    ensures { Tells entity_words result
+    ensures told { Tells entity_words result
         (named text.now (name_fault no_unreserved_id text.now)) }
+    ensures nowhere { IfOk result IsPlaceless }
 {
     match EntityType::from_normalized_str(alloc, text) {
         Ok(ty) => Ok(ty),
@@ -41,7 +43,8 @@ fn type_named(alloc: Global, text: &str) -> Out<EntityType, Fault>
 
 /// The entity type that the value names.
 fn read_type(alloc: Global, value: &Value) -> Out<EntityType, Fault>
-    ensures { Tells entity_words result (name_check (view value.now)) }
+    ensures told { Tells entity_words result (name_check (view value.now)) }
+    ensures nowhere { IfOk result IsPlaceless }
 {
     match value.as_str() {
         Some(text) => type_named(alloc, text),
@@ -73,7 +76,8 @@ pub fn missing<T>(alloc: Global, field: &str) -> Out<T, Fault>
 
 /// The entity type at the key `type`.
 fn type_at(alloc: Global, value: &Value) -> Out<EntityType, Fault>
-    ensures { Tells entity_words result (needs (codes "type") name_check (view value.now)) }
+    ensures told { Tells entity_words result (needs (codes "type") name_check (view value.now)) }
+    ensures nowhere { IfOk result IsPlaceless }
 {
     match value.get("type") {
         Some(member) => under(alloc, "type", read_type(alloc, member)),
@@ -95,7 +99,7 @@ fn id_at(alloc: Global, value: &Value) -> Out<Text, Fault>
 #[tactic(auto, using(crate::proofs::Told::told), unfolding(crate::specs::ValueChecks::plain_check))]
 fn plain_reference(alloc: Global, value: &Value) -> Out<EntityUID, Fault>
     ensures told { Tells uid_in result (plain_check (view value.now)) }
-    ensures nowhere { IfOk result (λ uid. place_of uid ≡ None) }
+    ensures nowhere { IfOk result IsNowhere }
 {
     check_keys(alloc, value, Keyed::Reference)?;
     let ty = type_at(alloc, value)?;
@@ -118,7 +122,7 @@ fn inner_of(value: &Value) -> Option<&Value>
 #[tactic(auto, using(crate::proofs::Told::told), unfolding(crate::specs::ValueChecks::reference_check))]
 fn reference(alloc: Global, value: &Value) -> Out<EntityUID, Fault>
     ensures told { Tells uid_in result (reference_check (view value.now)) }
-    ensures nowhere { IfOk result (λ uid. place_of uid ≡ None) }
+    ensures nowhere { IfOk result IsNowhere }
 {
     match inner_of(value) {
         Some(inner) => under(alloc, "__entity", plain_reference(alloc, inner)),
@@ -134,7 +138,7 @@ pub fn read_ref(alloc: Global, v: &Value) -> Out<EntityUID, Fault>
     ensures told { Tells uid_in result (reference_check (view v.now)) }
     ensures refers { IfOk result (λ uid. IsReference (view v.now) (uid_in uid)) }
     ensures none { IfRefused result (λ _. (u : Uid) → IsReference (view v.now) u → ⊥) }
-    ensures nowhere { IfOk result (λ uid. place_of uid ≡ None) }
+    ensures nowhere { IfOk result IsNowhere }
 {
     reference(alloc, v)
 }
@@ -164,8 +168,9 @@ fn chosen<'a>(
     ty: &'a ValidatorEntityType,
     uid: &EntityUID,
 ) -> Out<&'a ValidatorEntityType, Fault>
-    ensures { Tells (λ ty. entity_of ty.now) result
+    ensures told { Tells (λ ty. entity_of ty.now) result
         (choice_check (uid_in uid.now) (entity_of ty.now)) }
+    ensures same { IfOk result (λ found. found.now ≡ ty.now) }
 {
     if may_have_id(ty, uid.eid().as_str()) {
         return Ok(ty);
@@ -183,8 +188,9 @@ pub fn known<'a>(
     schema: &'a ValidatorSchema,
     uid: &EntityUID,
 ) -> Out<&'a ValidatorEntityType, Fault>
-    ensures { Tells (λ ty. entity_of ty.now) result
+    ensures told { Tells (λ ty. entity_of ty.now) result
         (known_check (schema_in schema.now) (uid_in uid.now)) }
+    ensures lent { IfOk result (λ ty. type_at schema.now (entity_type_of uid.now) ≡ Some ty.now) }
 {
     match schema.get_entity_type(uid.entity_type()) {
         Some(ty) => chosen(alloc, ty, uid),

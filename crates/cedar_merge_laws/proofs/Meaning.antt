@@ -349,6 +349,7 @@ means_together L F sorted none merged =
     let r = declares_alike L F sorted (fragment_seen_in_order F merged.ordered) none merged in
     let ms = all_namespaces L in
     record {
+      declares = world_alike F.0 ms r;
       sound = λ b X. (sound_there b X F.0 ms r, sound_there b X ms F.0 (turned r));
       denotes = λ b X S h. (denotes_there b X F.0 ms r S (sound_there b X ms F.0 (turned r) h), denotes_there b X ms F.0 (turned r) S h);
     }

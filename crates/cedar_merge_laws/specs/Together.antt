@@ -8,8 +8,9 @@ use Rattle.cedar_names.specs.Order.{word_cmp}
 use Rattle.cedar_names.specs.declared.name.Name.{Name}
 use Rattle.cedar_convert_fragment.specs.Fragments as tree
 use Rattle.cedar_convert_fragment.specs.Views.{fragment_seen, namespaces_seen}
-use Rattle.cedar_fragment_world.specs.FragmentWorlds.{world_of_fragment}
+use Rattle.cedar_fragment_world.specs.FragmentWorlds.{namespaces_of, world_of_fragment}
 use Rattle.cedar_merge.specs.Lookups.{Definition, Fragment, Path, path_cmp}
+use Rattle.cedar_resolving_laws.specs.Reordered.{DeclareAlike}
 use Rattle.cedar_schema.specs.Fragments.{SoundFragment}
 use Rattle.cedar_schema_error.specs.declared.action_behavior.ActionBehavior.{ActionBehavior}
 use Rattle.cedar_world.specs.Denotes.{Denotes}
@@ -60,8 +61,9 @@ said F = map_values definition_said F
 
 -- ---- meaning
 
--- the fragment is sound where the list is, and then denotes what the list denotes
+-- the world of the fragment declares what that of the list declares; it is sound where the list is, and then denotes what the list denotes
 pub record MeansTogether (L : List Fragment) (F : Fragment) : Type 0 where
+  pub declares : DeclareAlike (namespaces_of (fragment_seen F)) (namespaces_of (seen_together L))
   pub sound : (behavior : ActionBehavior) (extensions : List (List ℕ)) → SoundFragment behavior extensions (fragment_seen F) ↔ SoundFragment behavior extensions (seen_together L)
   pub denotes : (behavior : ActionBehavior) (extensions : List (List ℕ)) (S : Schema) → SoundFragment behavior extensions (seen_together L)
       → Denotes (world_of_fragment (fragment_seen F) extensions) S ↔ Denotes (world_of_fragment (seen_together L) extensions) S

@@ -21,9 +21,10 @@ use cedar_fragment::{Fragment, RawName};
 use cedar_merge::{MergeError, merge};
 use std::alloc::Global;
 
-/// A law: a fragment that says what several say together, of which no two declare the same, is sound where all of them
-/// together are, and then denotes the same schema. They stand in the order of their names, as each fragment does that
-/// stands as a `Fragment`. It does nothing when it runs.
+/// A law: a fragment that says what several say together, of which no two declare the same, stands for a world that
+/// declares what that of all of them does, sound or not; it is sound where theirs is, and then denotes the same schema.
+/// They stand in the order of their names, as each fragment does that stands as a `Fragment`. It does nothing when it
+/// runs.
 pub fn meaning_together()
     ensures { (L : List Held) (F : Held) → AllPass (λ f. InOrder (fragment_seen f)) L
         → NoClash L → Merged L F → MeansTogether L F }
@@ -45,7 +46,8 @@ pub fn orders_of_merged()
         → said (fragment_seen F) ≡ said (fragment_seen G) }
 {}
 
-/// Asks `merge`. The fragment that it answers is sound where all fragments together are, and then denotes the same schema.
+/// Asks `merge`. The fragment that it answers declares what all fragments do together, is sound where they are, and then
+/// denotes the same schema.
 pub fn merge_as_one(
     alloc: Global,
     fragments: Vec<Fragment<RawName>>,

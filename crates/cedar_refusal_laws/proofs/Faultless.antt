@@ -17,13 +17,13 @@ use Rattle.cedar_world.specs.of_unfold.Meanings as meaning
 use Rattle.cedar_world.specs.of_unfold.Written.{Written, WrittenAttributes, Boolean, Long, String, Extension, Set, Record, Entity, EntityOrCommon, CommonTypeRef, no_attributes, attribute}
 use Rattle.cedar_world.specs.Worlds.{World, all_namespaces, meanings, names, own}
 use Rattle.cedar_refusal_laws.specs.Kinds.{DeclareFree, HasItsKinds, HaveItsKinds, IsFree}
-use Rattle.cedar_refusal_laws.specs.WrongKinds.{is_of_wrong_kinds}
+use Rattle.cedar_refusal_laws.specs.NeverComing.{never_comes}
 use Rattle.cedar_refusal_laws.proofs.KindsKept.{all_free}
 use Rattle.cedar_refusal_laws.proofs.Members.{found_passes, keys_of_all, known_in_map, of_member}
 
 -- a refusal of another sort
 abbrev pub IsOther : Refusal → Type 0
-IsOther e = is_of_wrong_kinds e ≡ false
+IsOther e = never_comes e ≡ false
 
 open_other : (is_open : Bool) → AllPass IsOther (open_fault is_open)
 open_other true = (refl, tt)

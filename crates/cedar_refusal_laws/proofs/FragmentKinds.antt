@@ -27,7 +27,7 @@ use Rattle.cedar_world.specs.Definitions.{Namespace}
 use Rattle.cedar_world.specs.Worlds.{own}
 use Rattle.cedar_schema.specs.Fragments.{FragmentCause}
 use Rattle.cedar_refusal_laws.specs.Kinds.{ActionHasKinds, AreOf, DeclareFree, EntityHasKinds, HasItsKinds, HaveItsKinds, HaveTheirKinds, IsFree, NamespaceHasKinds}
-use Rattle.cedar_refusal_laws.specs.WrongKinds.{is_of_wrong_kinds}
+use Rattle.cedar_refusal_laws.specs.NeverComing.{never_comes}
 use Rattle.cedar_refusal_laws.proofs.Faultless.{IsOther}
 use Rattle.cedar_refusal_laws.proofs.RuledOut.{ruled_out}
 use Rattle.cedar_refusal_laws.proofs.Members.{of_first, pass_each_item, pass_set_of}
@@ -149,7 +149,7 @@ module _ (behavior : ActionBehavior) where
           (reserved_none n free (action_type n.0)) (attributes_other (action_uid n.0 a.0) a.1.content)
 
   -- no cause of a fragment of such namespaces is one of wrong kinds
-  pub fragment_other : (extensions : List (List ℕ)) (F : Fragment) (e : Refusal) → AllPass IsFreeNamespace F → FragmentCause behavior extensions F e → is_of_wrong_kinds e ≡ false
+  pub fragment_other : (extensions : List (List ℕ)) (F : Fragment) (e : Refusal) → AllPass IsFreeNamespace F → FragmentCause behavior extensions F e → never_comes e ≡ false
   fragment_other extensions F e free cause = elim cause [
     | inl first ↦ of_first IsOther (fragment_faults behavior F) e (pass_flat IsOther (definition_faults behavior) F (pass_weaker IsFreeNamespace (λ n. AllPass IsOther (definition_faults behavior n)) definition_other F free)) first
     | inr later ↦ ruled_out (world_of_fragment F extensions) (fragment_kinds F) (declared_free F extensions free) e later.1

@@ -15,7 +15,7 @@ use Rattle.cedar_schema.specs.Fragments.{FragmentCause}
 use Rattle.cedar_schema_error.specs.declared.action_behavior.ActionBehavior.{ActionBehavior}
 use Rattle.cedar_sound.proofs.NothingMissed.{pass_map}
 use Rattle.cedar_schema_error.specs.Refusals.{Refusal}
-use Rattle.cedar_refusal_laws.specs.WrongKinds.{is_of_wrong_kinds}
+use Rattle.cedar_refusal_laws.specs.NeverComing.{never_comes}
 use Rattle.cedar_refusal_laws.proofs.FragmentKinds.{IsFreeNamespace, fragment_other}
 use Rattle.cedar_refusal_laws.proofs.MadeKinds.{isnt, name_free}
 use Rattle.cedar_refusal_laws.proofs.Members.{pass_each_item}
@@ -33,6 +33,6 @@ seen_free n = record {
   entity_types = pass_map (λ e. is_cedar e.0 ≡ false) (λ e. (unreserved_word e.0, entity_seen e.1)) n.1.entity_types (pass_each_item (λ e. is_cedar (unreserved_word e.0) ≡ false) (λ e. word_free e.0) n.1.entity_types);
 }
 
-pub held_ruled_out : (behavior : ActionBehavior) (extensions : List (List ℕ)) (f : held.Fragment RawName over_raw) (e : Refusal) → FragmentCause behavior extensions (fragment_seen f) e → is_of_wrong_kinds e ≡ false
+pub held_ruled_out : (behavior : ActionBehavior) (extensions : List (List ℕ)) (f : held.Fragment RawName over_raw) (e : Refusal) → FragmentCause behavior extensions (fragment_seen f) e → never_comes e ≡ false
 held_ruled_out behavior extensions f e = fragment_other behavior extensions (fragment_seen f) e
     (pass_map IsFreeNamespace (λ n. (namespace_words n.0, definition_seen n.1)) f.0 (pass_each_item (λ n. IsFreeNamespace (namespace_words n.0, definition_seen n.1)) seen_free f.0))

@@ -36,7 +36,7 @@ use Rattle.cedar_world.specs.Definitions.{Namespace}
 use Rattle.cedar_world.specs.Worlds.{names_in}
 use Rattle.cedar_refusal_laws.specs.Kinds.{ActionHasKinds, DeclareFree, EntityHasKinds, HasItsKinds, HaveTheirKinds, IsFree, NamespaceHasKinds}
 use Rattle.cedar_refusal_laws.specs.Made.{IsMade}
-use Rattle.cedar_refusal_laws.specs.WrongKinds.{is_of_wrong_kinds}
+use Rattle.cedar_refusal_laws.specs.NeverComing.{never_comes}
 use Rattle.cedar_refusal_laws.proofs.FragmentKinds.{action_kinds, entity_kinds, type_kinds}
 use Rattle.cedar_refusal_laws.proofs.Members.{pass_each_item}
 use Rattle.cedar_refusal_laws.proofs.RuledOut.{ruled_out}
@@ -108,9 +108,9 @@ definitions_free ds = record {
 
 module _ (fs : List Fragment) (X : Extensions) (e : Refusal) where
   -- where definitions have the kinds of their places, no cause is one of wrong kinds
-  pub definitions_ruled_out : HaveTheirKinds (world_of fs X).namespaces → Cause (world_of fs X) e → is_of_wrong_kinds e ≡ false
+  pub definitions_ruled_out : HaveTheirKinds (world_of fs X).namespaces → Cause (world_of fs X) e → never_comes e ≡ false
   definitions_ruled_out kinds = ruled_out (world_of fs X) kinds (definitions_free (flat_map definitions_of fs)) e
 
   -- so where they are made
-  pub made_ruled_out : AllPass IsMade (flat_map definitions_of fs) → Cause (world_of fs X) e → is_of_wrong_kinds e ≡ false
+  pub made_ruled_out : AllPass IsMade (flat_map definitions_of fs) → Cause (world_of fs X) e → never_comes e ≡ false
   made_ruled_out made = definitions_ruled_out (made_kinds (flat_map definitions_of fs) made)

@@ -29,14 +29,14 @@ use Rattle.cedar_world.specs.Missing.{action_memberships, entity_memberships, me
 use Rattle.cedar_world.specs.Undeclared.{IsUndeclared, references_to_entities}
 use Rattle.cedar_world.specs.Worlds.{World, all_namespaces, common_types, job, meanings, names, own, uses}
 use Rattle.cedar_refusal_laws.specs.Kinds.{ActionHasKinds, AreOf, DeclareFree, EntityHasKinds, HasItsKinds, HaveTheirKinds, IsFree, NamespaceHasKinds}
-use Rattle.cedar_refusal_laws.specs.WrongKinds.{is_of_wrong_kinds}
+use Rattle.cedar_refusal_laws.specs.NeverComing.{never_comes}
 use Rattle.cedar_refusal_laws.proofs.Faultless.{IsOther, entity_found, entity_free, type_right}
 use Rattle.cedar_refusal_laws.proofs.KindsKept.{all_free, commons_have, entities_named, namespaces_have, uses_have}
 use Rattle.cedar_refusal_laws.proofs.Members.{found_passes, none_kept, of_first, of_first_refused, of_member, pass_each_item, pass_filter_map}
 
 -- what is equal to another refusal is one
 other : (e f : Refusal) → e ≡ f → IsOther f → IsOther e
-other e f is o = ap is_of_wrong_kinds is ∙ o
+other e f is o = ap never_comes is ∙ o
 
 duplicate_other : (d : Declared) → IsOther (duplicate d)
 duplicate_other (CommonType name) = refl
@@ -59,8 +59,8 @@ module _ (W : World) (kinds : HaveTheirKinds W.namespaces) (free : DeclareFree (
   -- ---- names that shadow others
 
   shadow_other : (p : ShadowPhase) (e : Refusal) → ShadowRefuses (own W) p e → IsOther e
-  shadow_other TypeShadows e r = ap is_of_wrong_kinds r.2
-  shadow_other ActionShadows e r = ap is_of_wrong_kinds r.2
+  shadow_other TypeShadows e r = ap never_comes r.2
+  shadow_other ActionShadows e r = ap never_comes r.2
 
   -- ---- targets
 
@@ -94,21 +94,21 @@ module _ (W : World) (kinds : HaveTheirKinds W.namespaces) (free : DeclareFree (
       (pass_flat IsFree (memberships (names W)) (all_namespaces W) (pass_weaker NamespaceHasKinds (λ ns. AllPass IsFree (memberships (names W) ns)) memberships_free (all_namespaces W) (namespaces_have W kinds)))
 
   reference_other : (p : ReferencePhase) (e : Refusal) → ReferencesRefuse (names W) (all_namespaces W) p e → IsOther e
-  reference_other MissingTypes e r = ap is_of_wrong_kinds r.2
-  reference_other MissingActions e r = ap is_of_wrong_kinds r.2
+  reference_other MissingTypes e r = ap never_comes r.2
+  reference_other MissingActions e r = ap never_comes r.2
   reference_other ReservedTargets e r = absurd (none_first (reserved_targets (names W) (all_namespaces W)) r.0 none_reserved r.2)
 
   -- ---- unfolding
 
   use_other : (u : UsePlace × Written NameReference) (e : Refusal) → HasItsKinds u.1 → UseRefuses (meanings W) u e → IsOther e
-  use_other u e h r = elim r [ inl fault ↦ of_first IsOther (faults (meanings W) u.1) e (type_right W free u.1 h) fault | inr later ↦ elim later [ inl deep ↦ ap is_of_wrong_kinds deep.2 | inr misfit ↦ ap is_of_wrong_kinds misfit.2 ] ]
+  use_other u e h r = elim r [ inl fault ↦ of_first IsOther (faults (meanings W) u.1) e (type_right W free u.1 h) fault | inr later ↦ elim later [ inl deep ↦ ap never_comes deep.2 | inr misfit ↦ ap never_comes misfit.2 ] ]
 
   unfold_other : (p : UnfoldPhase) (e : Refusal) → UnfoldRefuses (job W) p e → IsOther e
-  unfold_other CommonCycles e r = ap is_of_wrong_kinds r.1
+  unfold_other CommonCycles e r = ap never_comes r.1
   unfold_other CommonFaults e r = of_first_refused (λ c. faults (meanings W) c.1 ≡ []) (λ c. HasItsKinds c.1) (λ c. IsFirst (faults (meanings W) c.1)) IsOther
       (λ c e h first. of_first IsOther (faults (meanings W) c.1) e (type_right W free c.1 h) first) (common_types W) e (commons_have W kinds) r
   unfold_other CommonDepths e r = of_first_refused (λ c. UnfoldsWithin (meanings W) c.1) (λ c. HasItsKinds c.1) (λ c e. UnfoldsPast (meanings W) c.1 × (e ≡ TooDeep (place.CommonType c.0))) IsOther
-      (λ c e h past. ap is_of_wrong_kinds past.1) (common_types W) e (commons_have W kinds) r
+      (λ c e h past. ap never_comes past.1) (common_types W) e (commons_have W kinds) r
   unfold_other Uses e r = of_first_refused (UsePasses (meanings W)) (λ u. HasItsKinds u.1) (UseRefuses (meanings W)) IsOther use_other (uses W) e (uses_have W kinds) r
 
   -- ---- entity types that aren't declared
@@ -131,10 +131,10 @@ module _ (W : World) (kinds : HaveTheirKinds W.namespaces) (free : DeclareFree (
   phase_other References e r = of_first_refused (ReferencesPass (names W) (all_namespaces W)) (λ p. Unit {0}) (ReferencesRefuse (names W) (all_namespaces W)) IsOther (λ p e u. reference_other p e) reference_phases e (tt, (tt, (tt, tt))) r
   phase_other Duplicates e r = other e (duplicate r.0) r.1 (duplicate_other r.0)
   phase_other Unfolding e r = unfolding_other e r
-  phase_other ActionCycles e r = ap is_of_wrong_kinds r.1
+  phase_other ActionCycles e r = ap never_comes r.1
   phase_other UndeclaredTypes e r = absurd (none_undeclared r.0 ((r.3.members r.0).0 (first_in r.0 r.1)))
 
   -- no cause is one of wrong kinds
-  pub ruled_out : (e : Refusal) → Cause W e → is_of_wrong_kinds e ≡ false
+  pub ruled_out : (e : Refusal) → Cause W e → never_comes e ≡ false
   unfolding Cause
   ruled_out e r = of_first_refused (Passes W) (λ p. Unit {0}) (RefusesAt W) IsOther (λ p e u. phase_other p e) phases e (tt, (tt, (tt, (tt, (tt, (tt, tt)))))) r

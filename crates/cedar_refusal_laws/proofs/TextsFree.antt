@@ -15,7 +15,7 @@ use Rattle.cedar_schema_error.specs.declared.action_behavior.ActionBehavior.TheV
 use Rattle.cedar_schema_error.specs.declared.schema_error.SchemaError.{SchemaError}
 use Rattle.cedar_schema.specs.of_schema_errors.declared.schema_error.CedarSchemaError.TheVariants.{Schema}
 use Rattle.cedar_sound.proofs.NothingMissed.{pass_flat, pass_map, pass_map_of, pass_weaker}
-use Rattle.cedar_refusal_laws.specs.WrongKinds.{is_of_wrong_kinds}
+use Rattle.cedar_refusal_laws.specs.NeverComing.{never_comes}
 use Rattle.cedar_refusal_laws.proofs.FragmentKinds.{IsFreeNamespace, fragment_other}
 use Rattle.cedar_refusal_laws.proofs.Members.{pass_both, pass_each_item, pass_keys}
 
@@ -68,5 +68,5 @@ gathered_free gs =
     (pass_keys namespace_cmp (λ name. is_reserved name ≡ false) (declared_by gs) (pass_weaker IsFreeNamespace (λ n. is_reserved n.0 ≡ false) (λ n h. h.name) (declared_by gs) all))
     (pass_map_of namespace_cmp (λ (d : Definition). AreFreeTypes d.entity_types) (declared_by gs) (pass_weaker IsFreeNamespace (λ n. AreFreeTypes n.1.entity_types) (λ n h. h.entity_types) (declared_by gs) all))
 
-pub text_ruled_out : (text : List ℕ) (extensions : List (List ℕ)) (e : SchemaError) → TextCause text extensions (Schema e) → is_of_wrong_kinds (told e) ≡ false
+pub text_ruled_out : (text : List ℕ) (extensions : List (List ℕ)) (e : SchemaError) → TextCause text extensions (Schema e) → never_comes (told e) ≡ false
 text_ruled_out text extensions e cause = fragment_other ProhibitAttributes extensions cause.0 (told e) (subst (AllPass IsFreeNamespace) (sym cause.2.declares.fragment_is) (gathered_free (namespaces_of cause.2.tree))) cause.3

@@ -1,4 +1,4 @@
 -- SPDX-License-Identifier: Apache-2.0
 pub mod Kinds
-pub mod WrongKinds
+pub mod NeverComing
 pub mod Made

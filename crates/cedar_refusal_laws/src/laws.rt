@@ -14,7 +14,7 @@ ghost use Rattle.cedar_fragment_world.specs.of_namespace_definitions.Definitions
 ghost use Rattle.cedar_phases.specs.Holding.{Definition, Fragment, world_of};
 ghost use Rattle.cedar_refusal_laws.specs.Kinds.{DeclareFree, HaveTheirKinds, NamespaceHasKinds};
 ghost use Rattle.cedar_refusal_laws.specs.Made.{IsMade};
-ghost use Rattle.cedar_refusal_laws.specs.WrongKinds.{is_of_wrong_kinds};
+ghost use Rattle.cedar_refusal_laws.specs.NeverComing.{never_comes};
 ghost use Rattle.cedar_schema.specs.Fragments.{FragmentCause};
 ghost use Rattle.cedar_schema.specs.Texts.{TextCause};
 ghost use Rattle.cedar_schema_error.specs.Refusals.{Refusal};
@@ -29,16 +29,17 @@ ghost use Rattle.cedar_written.specs.declared.raw_name.RawName.{RawName};
 
 /// A law: where each reference has the kind of its place, and no declared entity type and no type of a declared action has
 /// `__cedar` in its name, a world is refused neither for a name with `__cedar`, nor for a common type that is none, nor for
-/// entity types that aren't declared. What definitions declare that stand as such never has `__cedar` there, so where they
+/// entity types that aren't declared, and never by an error that no rule of schemas gives (one of JSON, or one that only a
+/// caller makes). What definitions declare that stand as such never has `__cedar` there, so where they
 /// have the kinds of their places they are not refused so. It does nothing when it runs.
 #[tactic(auto, using(crate::proofs::RuledOut::ruled_out, crate::proofs::MadeKinds::definitions_ruled_out))]
 pub fn kinds_rule_out()
     ensures worlds { (W : World) (e : Refusal) → HaveTheirKinds W.namespaces
         → DeclareFree (own W)
-        → Cause W e → is_of_wrong_kinds e ≡ false }
+        → Cause W e → never_comes e ≡ false }
     ensures definitions { (fs : List Fragment) (X : Extensions) (e : Refusal)
         → HaveTheirKinds (world_of fs X).namespaces
-        → Cause (world_of fs X) e → is_of_wrong_kinds e ≡ false }
+        → Cause (world_of fs X) e → never_comes e ≡ false }
 {}
 
 /// A law: in the definition that declarations become in a namespace, and so in those that a fragment becomes, each
@@ -52,16 +53,17 @@ pub fn what_is_made_has_its_kinds()
         → AreDefinitionsOf F ds → HaveTheirKinds (map namespace_in ds) }
     ensures resolved { (fs : List Fragment) (X : Extensions) (e : Refusal)
         → AllPass IsMade (flat_map definitions_of fs)
-        → Cause (world_of fs X) e → is_of_wrong_kinds e ≡ false }
+        → Cause (world_of fs X) e → never_comes e ≡ false }
 {}
 
 /// A law: no fragment that stands as such, and no text, is refused for a name with `__cedar`, for a common type that is
-/// none, or for entity types that aren't declared. It does nothing when it runs.
+/// none, or for entity types that aren't declared, or by an error that no rule of schemas gives. It does nothing when it
+/// runs.
 #[tactic(auto, using(crate::proofs::FragmentsFree::held_ruled_out, crate::proofs::TextsFree::text_ruled_out))]
 pub fn fragments_and_texts()
     ensures fragment { (behavior : ActionBehavior) (extensions : List (List ℕ))
         → (f : held.Fragment RawName over_raw) (e : Refusal)
-        → FragmentCause behavior extensions (fragment_seen f) e → is_of_wrong_kinds e ≡ false }
+        → FragmentCause behavior extensions (fragment_seen f) e → never_comes e ≡ false }
     ensures text { (text : List ℕ) (extensions : List (List ℕ)) (e : SchemaError)
-        → TextCause text extensions (Schema e) → is_of_wrong_kinds (told e) ≡ false }
+        → TextCause text extensions (Schema e) → never_comes (told e) ≡ false }
 {}

@@ -18,4 +18,4 @@ attribute_types-loop-name-preserved t c = Goes-next c.loop-name.invariant c.in-S
 pub attribute_types-returns : goal.attribute_types-returns
 attribute_types-returns t c =
     ap (λ r. and_then r (λ types. Ok (attributes_of types))) (typed_fields-are c.args.fields.now ∙ Goes-end c.loop-name.invariant c.in-None.ensures.steps.0)
-    ∙ ap Ok (sym c.from_map.ensures)
+    ∙ ap Ok (sym c.in_ok-attributes.ensures)
