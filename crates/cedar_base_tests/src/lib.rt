@@ -8,6 +8,8 @@
 #[cfg(test)]
 mod breaking;
 #[cfg(test)]
+mod collecting;
+#[cfg(test)]
 mod collections;
 #[cfg(test)]
 mod copies;

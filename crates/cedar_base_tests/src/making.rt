@@ -44,6 +44,13 @@ fn named(alloc: Global, namespace: Vec<Id>) -> Option<InternalName> {
     Some(InternalName::new(basename, namespace, place(alloc)))
 }
 
+/// The same name with no place, whose copies share its namespace.
+pub fn shared_name(alloc: Global) -> Option<InternalName> {
+    let namespace = namespace(alloc)?;
+    let basename = id(alloc, "B")?;
+    InternalName::with_shared(alloc, basename, namespace, None).ok()
+}
+
 /// The same name as one that isn't reserved.
 pub fn unreserved_name(alloc: Global) -> Option<Name> {
     Name::from_internal(placed_name(alloc)?).ok()

@@ -1,6 +1,6 @@
 // SPDX-License-Identifier: Apache-2.0
 use crate::holding::{all_hold, are_equal, is_copied, is_written};
-use crate::making::{placed_name, text, uid};
+use crate::making::{placed_name, shared_name, text, uid};
 use cedar_data::{Failure, Out};
 use cedar_names::{Annotation, Annotations, AnyId, Id, InternalName, Name, UnreservedId};
 use cedar_text::NameFault;
@@ -114,6 +114,22 @@ fn of_names(rt: HostRuntime) -> Result<(), Fail> {
         (
             "`in` is refused",
             are_equal(reserved(alloc), wanted(alloc)) == Some(true),
+        ),
+    ])
+}
+
+#[test]
+fn of_shared_names(rt: HostRuntime) -> Result<(), Fail> {
+    let alloc = rt.alloc();
+    all_hold(&[
+        (
+            "a name is written",
+            is_written(alloc, shared_name(alloc), "A::B"),
+        ),
+        ("a name is copied", is_copied(alloc, shared_name(alloc))),
+        (
+            "they are equal",
+            are_equal(shared_name(alloc), placed_name(alloc)) == Some(true),
         ),
     ])
 }

@@ -1,15 +1,17 @@
 // SPDX-License-Identifier: Apache-2.0
 //! Verbs of rows on the conversion of schemas: the fragment that a text declares, or all that is
-//! wrong with it, as lines of text with places in bytes; the warnings of its names; and each
-//! namespace and each type by itself. Nothing is promised of the answers but that they come; the
-//! rows say what they have to be.
+//! wrong with it, as lines of text with places in bytes; the warnings of its names; each namespace
+//! and each type by itself; and the first of some names that is repeated. Nothing is promised of
+//! the answers but that they come; the rows say what they have to be.
 #![tactic(auto)]
 
 mod pieces;
+mod repeats;
 mod telling;
 
 use cedar_data::Mem;
 pub use pieces::by_pieces;
+pub use repeats::first_repeat;
 use std::alloc::Global;
 pub use telling::{fragment, warnings};
 
@@ -18,6 +20,7 @@ pub use telling::{fragment, warnings};
 pub fn answer(alloc: Global, verb: &str, words: &[&str], input: &str) -> Mem<Option<String>> {
     let lines = match verb {
         "by-pieces" => by_pieces(alloc, input)?,
+        "first-repeat" => first_repeat(alloc, input)?,
         "fragment" => fragment(alloc, words, input)?,
         "warnings" => warnings(alloc, input)?,
         _ => return Ok(None),

@@ -4,11 +4,13 @@
 #![tactic(auto)]
 
 mod fault_lines;
+mod nested_values;
 mod shapes;
 mod written_lines;
 
 use cedar_data::Mem;
 pub use fault_lines::json_fault;
+pub use nested_values::nested;
 use std::alloc::Global;
 pub use written_lines::to_json;
 
@@ -16,6 +18,7 @@ pub use written_lines::to_json;
 pub fn answer(alloc: Global, verb: &str, words: &[&str], input: &str) -> Mem<Option<String>> {
     let lines = match verb {
         "json-fault" => json_fault(alloc, words, input)?,
+        "nested" => nested(alloc, words)?,
         "to-json" => to_json(alloc, words, input)?,
         _ => return Ok(None),
     };

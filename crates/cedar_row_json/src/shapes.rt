@@ -33,7 +33,8 @@ pub(crate) fn reading_of(alloc: Global, words: &[&str], input: &str) -> Mem<Read
     }
 }
 
-fn read_as(alloc: Global, shape: &str, value: &Value) -> Mem<Reading> {
+/// The value as the shape that the word names.
+pub(crate) fn read_as(alloc: Global, shape: &str, value: &Value) -> Mem<Reading> {
     match shape {
         "fragment" => written_of(alloc, Fragment::from_json_value(alloc, value)),
         "namespace" => written_of(alloc, NamespaceDefinition::from_json_value(alloc, value)),

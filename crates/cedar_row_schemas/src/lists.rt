@@ -2,7 +2,7 @@
 use cedar_data::{Failure, Mem, NoMemory, Out};
 use cedar_definitions::{ValidatorNamespaceDef, ValidatorSchemaFragment};
 use cedar_fragment::{Fragment, RawName};
-use cedar_listing::write_listing;
+use cedar_listing::{write_counts, write_listing};
 use cedar_names::Extensions;
 use cedar_resolved::ValidatorSchema;
 use cedar_row_schema_lines::error_told;
@@ -44,9 +44,19 @@ fn made_told(alloc: Global, made: &Out<ValidatorSchema, CedarSchemaError>) -> Me
     }
 }
 
-fn listed(alloc: Global, schema: &ValidatorSchema) -> Mem<String> {
+/// The listing of a schema.
+pub(crate) fn listed(alloc: Global, schema: &ValidatorSchema) -> Mem<String> {
     let mut sink = MemSink::new(alloc, ROOM, ROOM, Vec::new(alloc))?;
     match write_listing(schema, &[], &mut sink) {
+        Ok(()) => text_of(alloc, sink.bytes()),
+        Err(_) => Ok(String::from_str(alloc, "no room\n")?),
+    }
+}
+
+/// The line of counts of a schema.
+pub(crate) fn counted(alloc: Global, schema: &ValidatorSchema) -> Mem<String> {
+    let mut sink = MemSink::new(alloc, ROOM, ROOM, Vec::new(alloc))?;
+    match write_counts(schema, &[], &mut sink) {
         Ok(()) => text_of(alloc, sink.bytes()),
         Err(_) => Ok(String::from_str(alloc, "no room\n")?),
     }

@@ -1,0 +1,60 @@
+// SPDX-License-Identifier: Apache-2.0
+use cedar_compat_laws::{CompatFault, compatible_with_data};
+use cedar_data::{Failure, Mem, NoMemory, Out};
+use cedar_resolved::ValidatorSchema;
+use cedar_row_schema_lines::{CedarSchemaError, error_told, schema_of};
+use cedar_row_trees::line_of;
+use std::alloc::Global;
+
+/// What a text denotes, or why it denotes nothing.
+type Made = Out<ValidatorSchema, CedarSchemaError>;
+
+/// `keeps-data`: whether each list of entities of the schema before the line `---` is one of the
+/// schema behind it.
+pub fn keeps_data(alloc: Global, input: &str) -> Mem<String> {
+    let Some((old, new)) = input.split_once("\n---\n") else {
+        return line_of(alloc, "no line `---`");
+    };
+    let old = schema_of(alloc, old);
+    let told = from_old(alloc, &old, new);
+    drop(old);
+    told
+}
+
+fn from_old(alloc: Global, old: &Made, new: &str) -> Mem<String> {
+    match old {
+        Ok(old) => to_text(alloc, old, new),
+        Err(Failure::Refused(error)) => error_told(alloc, error),
+        Err(Failure::NoMemory) => Err(NoMemory),
+    }
+}
+
+fn to_text(alloc: Global, old: &ValidatorSchema, new: &str) -> Mem<String> {
+    let new = schema_of(alloc, new);
+    let told = to_new(alloc, old, &new);
+    drop(new);
+    told
+}
+
+fn to_new(alloc: Global, old: &ValidatorSchema, new: &Made) -> Mem<String> {
+    match new {
+        Ok(new) => compared(alloc, old, new),
+        Err(Failure::Refused(error)) => error_told(alloc, error),
+        Err(Failure::NoMemory) => Err(NoMemory),
+    }
+}
+
+fn compared(alloc: Global, old: &ValidatorSchema, new: &ValidatorSchema) -> Mem<String> {
+    let answer = compatible_with_data(alloc, old, new);
+    let told = answer_told(alloc, &answer);
+    drop(answer);
+    told
+}
+
+fn answer_told(alloc: Global, answer: &Out<(), CompatFault>) -> Mem<String> {
+    match answer {
+        Ok(()) => line_of(alloc, "compatible"),
+        Err(Failure::Refused(fault)) => Ok(format!(in alloc; "error: {fault}\n")?),
+        Err(Failure::NoMemory) => Err(NoMemory),
+    }
+}
