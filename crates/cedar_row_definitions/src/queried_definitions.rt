@@ -32,8 +32,7 @@ pub fn definitions(
     Ok(definitions_told(alloc, words, &definitions)?)
 }
 
-/// The definitions that the fragment declares.
-pub(crate) fn all_defined(
+fn all_defined(
     alloc: Global,
     fragment: &Fragment<RawName>,
     extensions: &Extensions,
@@ -85,7 +84,7 @@ fn add_names(lines: &mut Lines, words: &[&str], definitions: &Definitions) -> Me
 }
 
 /// Marks each word that is a name as a common type.
-pub(crate) fn mark_all(alloc: Global, names: &mut AllDefs, words: &[&str]) -> Mem<()> {
+fn mark_all(alloc: Global, names: &mut AllDefs, words: &[&str]) -> Mem<()> {
     for word in words {
         match InternalName::from_normalized_str(alloc, word) {
             Ok(name) => names.mark_as_defined_as_common_type(name)?,
