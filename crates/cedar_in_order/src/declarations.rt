@@ -14,7 +14,7 @@ use cedar_fragment::{
 };
 use cedar_names::UnreservedId;
 
-/// The same of a common type.
+/// A law: the maps of a common type ascend at every depth. It changes nothing when it runs.
 fn common_type_in_order(common: &CommonType<RawName>)
     ensures annotations { InOrder (common_seen common.now).annotations }
     ensures ty { TypeInOrder (common_seen common.now).content }

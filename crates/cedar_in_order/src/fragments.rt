@@ -7,7 +7,7 @@ use crate::declarations::{actions_in_order, common_types_in_order, entity_types_
 use crate::types::annotations_in_order;
 use cedar_fragment::{Fragment, NamespaceDefinition, RawName};
 
-/// The same of what a namespace declares.
+/// A law: the maps of what a namespace declares ascend at every depth. It changes nothing when it runs.
 fn definition_in_order(definition: &NamespaceDefinition<RawName>)
     ensures maps { DefinitionInOrder (definition_seen definition.now) }
     ensures types { EachOfDefinition TypeInOrder (definition_seen definition.now) }
