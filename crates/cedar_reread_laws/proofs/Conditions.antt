@@ -6,7 +6,7 @@ use Rattle.cedar_convert_fragment.specs.Fragments.{Fields, Form, TypeAt, written
 use Rattle.cedar_reread.specs.EachType.{Nests}
 use Rattle.cedar_reread_declares.specs.Rereadable.{RereadableFields, RereadableForm, RereadableShape, RereadableShapeForm, RereadableType}
 use Rattle.cedar_reread_print.specs.Fits.{FieldsSorted, FormFits, FormSorted, KeysSorted, ShapeFits, TypeFits}
-use Rattle.cedar_reread_laws.specs.Printable.{FieldsInOrder, FormInOrder, TypeInOrder}
+use Rattle.cedar_in_order.specs.InOrder.{FieldsInOrder, FormInOrder, TypeInOrder}
 use Rattle.cedar_reread_laws.proofs.SoundParts.{ShapeIsSound, TypeIsSound}
 use Rattle.cedar_reread_laws.proofs.SoundTypes.{AreClosed, FormIsClosed, FormIsNamedOrRecord, IsClosed}
 

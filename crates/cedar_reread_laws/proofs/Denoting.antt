@@ -21,13 +21,14 @@ use Rattle.cedar_schema.specs.Fragments.{SoundFragment}
 use Rattle.cedar_schema.specs.Texts as text
 use Rattle.cedar_reread.specs.Placeless.{placeless}
 use Rattle.cedar_reread.specs.Rereading.{reread}
+use Rattle.cedar_in_order.specs.InOrder.{FragmentInOrder}
 use Rattle.cedar_reread_laws.specs.Printable.{IsPrintable}
 use Rattle.cedar_reread_laws.specs.Shown.{IsPrintOf}
 use Rattle.cedar_reread_laws.proofs.Known.{is_not}
 use Rattle.cedar_reread_laws.proofs.Placed.{PlacesLeftOut}
 use Rattle.cedar_reread_laws.proofs.Printing.{printed_declares, reread_denotes_it, reread_is_faultless, reread_is_sound, same_denotes_it, same_is_faultless, same_is_sound}
 
-module _ (F : held.Fragment RawName over_raw) (X : Extensions) (printable : IsPrintable (fragment_seen F) (extension_words X))
+module _ (F : held.Fragment RawName over_raw) (X : Extensions) (ordered : FragmentInOrder (fragment_seen F)) (printable : IsPrintable (fragment_seen F) (extension_words X))
     (sound : SoundFragment ProhibitAttributes (extension_words X) (fragment_seen F)) where
   no_primitive : list_any is_primitive_word (extension_words X) ≡ false
   no_primitive = is_not (list_any is_primitive_word (extension_words X)) X.no_primitive
@@ -35,23 +36,23 @@ module _ (F : held.Fragment RawName over_raw) (X : Extensions) (printable : IsPr
   -- the fragment that is read again
   pub read_again_sound : SoundFragment ProhibitAttributes (extension_words X) (reread (fragment_seen F))
   read_again_sound = record {
-    faultless = reread_is_faultless F (extension_words X) printable sound.faultless sound.sound no_primitive;
-    sound = reread_is_sound F (extension_words X) printable sound.faultless sound.sound no_primitive;
+    faultless = reread_is_faultless F (extension_words X) ordered printable sound.faultless sound.sound no_primitive;
+    sound = reread_is_sound F (extension_words X) ordered printable sound.faultless sound.sound no_primitive;
   }
 
   pub read_again_denotes : (S : Schema) → Denotes (world_of_fragment (fragment_seen F) (extension_words X)) S → Denotes (world_of_fragment (reread (fragment_seen F)) (extension_words X)) S
-  read_again_denotes = reread_denotes_it F (extension_words X) printable sound.faultless sound.sound no_primitive
+  read_again_denotes = reread_denotes_it F (extension_words X) ordered printable sound.faultless sound.sound no_primitive
 
   module _ (law : PlacesLeftOut) (source : List ℕ) (is : IsPrintOf source F) (u : IsUtf8 source) where
     pub declares_it_again : (G : Fragment) × (warned : List SchemaWarning) × DeclaresText source (extension_words X) G warned × (placeless G ≡ placeless (reread (fragment_seen F)))
-    declares_it_again = printed_declares F (extension_words X) printable sound.faultless sound.sound law source is u
+    declares_it_again = printed_declares F (extension_words X) ordered printable sound.faultless sound.sound law source is u
 
     pub is_well_formed : text.IsWellFormed source (extension_words X) declares_it_again.0 declares_it_again.1
     is_well_formed = record {
       declares = declares_it_again.2;
       sound = record {
-        faultless = same_is_faultless F (extension_words X) printable sound.faultless sound.sound no_primitive declares_it_again.0 declares_it_again.3;
-        sound = same_is_sound F (extension_words X) printable sound.faultless sound.sound no_primitive declares_it_again.0 declares_it_again.3;
+        faultless = same_is_faultless F (extension_words X) ordered printable sound.faultless sound.sound no_primitive declares_it_again.0 declares_it_again.3;
+        sound = same_is_sound F (extension_words X) ordered printable sound.faultless sound.sound no_primitive declares_it_again.0 declares_it_again.3;
       };
     }
 
@@ -59,5 +60,5 @@ module _ (F : held.Fragment RawName over_raw) (X : Extensions) (printable : IsPr
     denotes_the_same S d = record {
       fragment = declares_it_again.0;
       well_formed = is_well_formed;
-      denotes = same_denotes_it F (extension_words X) printable sound.faultless sound.sound no_primitive declares_it_again.0 declares_it_again.3 S d;
+      denotes = same_denotes_it F (extension_words X) ordered printable sound.faultless sound.sound no_primitive declares_it_again.0 declares_it_again.3 S d;
     }

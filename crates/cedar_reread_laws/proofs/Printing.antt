@@ -35,7 +35,8 @@ use Rattle.cedar_reread_print.proofs.Fitting.{fits_readable}
 use Rattle.cedar_reread_print.proofs.Printing.{print_apart, print_said}
 use Rattle.cedar_reread_print.specs.Spoken.{spoken, words}
 use Rattle.cedar_reread_world.proofs.SoundThere.{reread_denotes, reread_sound}
-use Rattle.cedar_reread_laws.specs.Printable.{DefinitionInOrder, IsPrintable, SaysAction, TypeInOrder}
+use Rattle.cedar_in_order.specs.InOrder.{DefinitionInOrder, FragmentInOrder, TypeInOrder}
+use Rattle.cedar_reread_laws.specs.Printable.{IsPrintable, SaysAction}
 use Rattle.cedar_reread_laws.specs.Shown.{IsPrintOf, shown}
 use Rattle.cedar_reread_laws.proofs.FaultsKept.{faults_reread, no_attributes, same_faults}
 use Rattle.cedar_reread_laws.proofs.Known.{names_free, world_printable}
@@ -55,13 +56,13 @@ together (n ∷ F) free ordered types reserved says bare sound = (
   together F free.1 ordered.1 types.1 reserved.1 says.1 bare.1 sound.1,
 )
 
-module _ (F : held.Fragment RawName over_raw) (extensions : List Text) (printable : IsPrintable (fragment_seen F) extensions)
+module _ (F : held.Fragment RawName over_raw) (extensions : List Text) (ordered : FragmentInOrder (fragment_seen F)) (printable : IsPrintable (fragment_seen F) extensions)
     (faultless : fragment_faults ProhibitAttributes (fragment_seen F) ≡ []) (sound : Sound (world_of_fragment (fragment_seen F) extensions)) where
   abbrev seen : Fragment
   seen = fragment_seen F
 
   known : AllByRecursion IsKnown seen
-  known = together seen (names_free F) printable.in_order.definitions printable.in_order.types printable.no_reserved printable.actions (no_attributes seen faultless) (parts_sound seen extensions sound)
+  known = together seen (names_free F) ordered.definitions ordered.types printable.no_reserved printable.actions (no_attributes seen faultless) (parts_sound seen extensions sound)
 
   -- the printed text declares the fragment that is expected, places aside
   pub printed_declares : PlacesLeftOut → (text : List ℕ) → IsPrintOf text F → IsUtf8 text
@@ -73,7 +74,7 @@ module _ (F : held.Fragment RawName over_raw) (extensions : List Text) (printabl
       let readable = fits_readable 128 F (fits seen known) in
       let shallow = nests seen known in
       let at = read_at seen ts same readable shallow in
-      let expected = declares_reread seen (is_rereadable seen known printable.in_order.namespaces) in
+      let expected = declares_reread seen (is_rereadable seen known ordered.namespaces) in
       let found = declared_at seen ts same readable shallow law expected.0 expected.1 in (
         found.0,
         warnings extensions at.tree,

@@ -11,7 +11,8 @@ use Rattle.cedar_convert_fragment.specs.Fragments.{ActionContent, AppliesTo, ByN
 use Rattle.cedar_reread.specs.EachType.{EachOfAction, EachOfDefinition, EachOfEntity, Nests, NestsAtMost}
 use Rattle.cedar_reread_declares.specs.Rereadable.{RereadableAction, RereadableActionEntry, RereadableApplies, RereadableClauses, RereadableCommonEntry, RereadableEntity, RereadableEntityEntry, RereadableName, RereadableNamespace, RereadableShape, Rereadable}
 use Rattle.cedar_reread_print.specs.Fits.{ActionFits, DefinitionFits, EntityFits, NamedFits, NamespaceFits, ShapeFits, Fits}
-use Rattle.cedar_reread_laws.specs.Printable.{DefinitionInOrder, InOrder, SaysAction, SaysApplies, SaysLists, TypeInOrder}
+use Rattle.cedar_in_order.specs.InOrder.{DefinitionInOrder, InOrder, TypeInOrder}
+use Rattle.cedar_reread_laws.specs.Printable.{SaysAction, SaysApplies, SaysLists}
 use Rattle.cedar_reread_laws.proofs.Conditions.{shape_fits, shape_rereadable, type_fits, type_rereadable}
 use Rattle.cedar_reread_laws.proofs.SoundParts.{ActionIsSound, DefinitionIsSound, EntityIsSound, ShapeIsSound, TypeIsSound}
 use Rattle.cedar_reread_laws.proofs.WorldReread.{HasShapes, IsReread}

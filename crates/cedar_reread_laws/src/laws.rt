@@ -8,6 +8,7 @@ ghost use Rattle.cedar_fmt.specs.Collisions.{collisions};
 ghost use Rattle.cedar_fragment.specs.ActionUids.{over_raw};
 ghost use Rattle.cedar_fragment.specs.declared.definitions.Fragment as held;
 ghost use Rattle.cedar_fragment_world.specs.FragmentWorlds.{world_of_fragment};
+ghost use Rattle.cedar_in_order.specs.InOrder.{FragmentInOrder};
 ghost use Rattle.cedar_names.specs.Extensions.{extension_words};
 ghost use Rattle.cedar_names.specs.declared.extensions.Extensions.{Extensions};
 ghost use Rattle.cedar_reread.specs.Placeless.{placeless};
@@ -36,6 +37,7 @@ pub fn what_is_printable_is_not_refused()
 pub fn what_is_printed_declares_it_again()
     ensures { (F : held.Fragment RawName over_raw) (X : Extensions) (source : List ℕ)
         → IsPrintOf source F → IsUtf8 source
+        → FragmentInOrder (fragment_seen F)
         → IsPrintable (fragment_seen F) (extension_words X)
         → SoundFragment ProhibitAttributes (extension_words X) (fragment_seen F)
         → (G : Fragment) × (warned : List SchemaWarning)
@@ -49,10 +51,12 @@ pub fn what_is_printed_declares_it_again()
 /// nothing when it runs.
 pub fn what_is_read_again_denotes_the_same()
     ensures sound { (F : held.Fragment RawName over_raw) (X : Extensions)
+        → FragmentInOrder (fragment_seen F)
         → IsPrintable (fragment_seen F) (extension_words X)
         → SoundFragment ProhibitAttributes (extension_words X) (fragment_seen F)
         → SoundFragment ProhibitAttributes (extension_words X) (reread (fragment_seen F)) }
     ensures denotes { (F : held.Fragment RawName over_raw) (X : Extensions) (S : Schema)
+        → FragmentInOrder (fragment_seen F)
         → IsPrintable (fragment_seen F) (extension_words X)
         → SoundFragment ProhibitAttributes (extension_words X) (fragment_seen F)
         → Denotes (world_of_fragment (fragment_seen F) (extension_words X)) S
@@ -64,12 +68,14 @@ pub fn what_is_read_again_denotes_the_same()
 pub fn what_is_printed_denotes_the_same()
     ensures well_formed { (F : held.Fragment RawName over_raw) (X : Extensions) (source : List ℕ)
         → IsPrintOf source F → IsUtf8 source
+        → FragmentInOrder (fragment_seen F)
         → IsPrintable (fragment_seen F) (extension_words X)
         → SoundFragment ProhibitAttributes (extension_words X) (fragment_seen F)
         → (G : Fragment) × (warned : List SchemaWarning)
         × text.IsWellFormed source (extension_words X) G warned }
     ensures denotes { (F : held.Fragment RawName over_raw) (X : Extensions) (source : List ℕ)
         → (S : Schema) → IsPrintOf source F → IsUtf8 source
+        → FragmentInOrder (fragment_seen F)
         → IsPrintable (fragment_seen F) (extension_words X)
         → SoundFragment ProhibitAttributes (extension_words X) (fragment_seen F)
         → Denotes (world_of_fragment (fragment_seen F) (extension_words X)) S

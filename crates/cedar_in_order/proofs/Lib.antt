@@ -1,0 +1,5 @@
+-- SPDX-License-Identifier: Apache-2.0
+mod Ascending
+mod DeclarationsSeen
+mod NamespacesSeen
+mod TypesSeen

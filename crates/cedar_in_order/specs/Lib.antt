@@ -1,0 +1,3 @@
+-- SPDX-License-Identifier: Apache-2.0
+pub use Rattle.cedar_data.specs.formers
+pub mod InOrder
