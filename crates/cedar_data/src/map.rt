@@ -231,7 +231,8 @@ impl<K: Ord + Dup + Drop, V: Dup + Drop> Dup for Map<K, V> {
 impl<K: Ord, V: PartialEq> PartialEq for Map<K, V> {
     ghost eq = { pointwise (λ p q. K.eq p.0 q.0 && V.eq p.1 q.1) };
 
-    ghost laws = { lists_per (and_per (on_per (λ p. p.0) K.PartialEq.laws) (on_per (λ p. p.1) V.laws)) };
+    ghost laws = { lists_per (and_per (on_per (λ p. p.0) K.PartialEq.laws)
+        (on_per (λ p. p.1) V.laws)) };
 
     fn eq(&self, other: &Self) -> bool {
         same_entries(self.map.iter(), other.map.iter())
@@ -239,13 +240,16 @@ impl<K: Ord, V: PartialEq> PartialEq for Map<K, V> {
 }
 
 impl<K: Ord, V: Eq> Eq for Map<K, V> {
-    ghost laws = { lists_equiv (and_equiv (on_equiv (λ p. p.0) K.Eq.laws) (on_equiv (λ p. p.1) V.Eq.laws)) };
+    ghost laws = { lists_equiv (and_equiv (on_equiv (λ p. p.0) K.Eq.laws)
+        (on_equiv (λ p. p.1) V.Eq.laws)) };
 }
 
 impl<K: Ord, V: PartialOrd> PartialOrd for Map<K, V> {
-    ghost partial_cmp = { slice_partial_cmp (λ p q. partial_ordering_then (K.partial_cmp p.0 q.0) (V.partial_cmp p.1 q.1)) };
+    ghost partial_cmp = { slice_partial_cmp (λ p q. partial_ordering_then (K.partial_cmp p.0 q.0)
+        (V.partial_cmp p.1 q.1)) };
 
-    ghost laws = { lists_po (then_po (on_po (λ p. p.0) K.PartialOrd.laws) (on_po (λ p. p.1) V.PartialOrd.laws)) };
+    ghost laws = { lists_po (then_po (on_po (λ p. p.0) K.PartialOrd.laws)
+        (on_po (λ p. p.1) V.PartialOrd.laws)) };
 
     fn partial_cmp(&self, other: &Self) -> Option<Ordering> {
         partially_compare_entries(self.map.iter(), other.map.iter())
@@ -255,13 +259,16 @@ impl<K: Ord, V: PartialOrd> PartialOrd for Map<K, V> {
 impl<K: Ord, V: Ord> Ord for Map<K, V> {
     ghost cmp = { slice_cmp (λ p q. ordering_then (K.cmp p.0 q.0) (V.cmp p.1 q.1)) };
 
-    ghost total = { lists_total (then_total (on_total (λ p. p.0) K.total) (on_total (λ p. p.1) V.total)) };
+    ghost total = { lists_total (then_total (on_total (λ p. p.0) K.total)
+        (on_total (λ p. p.1) V.total)) };
 
-    ghost matches_partial_cmp = { lists_agrees (then_agrees (λ p q. K.matches_partial_cmp p.0 q.0) (λ p q. V.matches_partial_cmp p.1 q.1)) };
+    ghost matches_partial_cmp = { lists_agrees (then_agrees (λ p q. K.matches_partial_cmp p.0 q.0)
+        (λ p q. V.matches_partial_cmp p.1 q.1)) };
 
     ghost matches_eq = { let K' = K.cmp in let V' = V.cmp in
         lists_ties (λ p q. ordering_then (K' p.0 q.0) (V' p.1 q.1))
-        (λ p q. both_tied _ _ (K' p.0 q.0) (V' p.1 q.1) (K.matches_eq p.0 q.0) (V.matches_eq p.1 q.1)) };
+        (λ p q. both_tied _ _ (K' p.0 q.0) (V' p.1 q.1) (K.matches_eq p.0 q.0)
+        (V.matches_eq p.1 q.1)) };
 
     fn cmp(&self, other: &Self) -> Ordering {
         compare_entries(self.map.iter(), other.map.iter())

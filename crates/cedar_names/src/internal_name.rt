@@ -351,7 +351,8 @@ pub struct ReservedNameError {
 }
 
 impl fmt::Display for ReservedNameError {
-    ghost output = { λ e. Some (codes "the name `" ++ joined (components e.name) ++ codes "` contains `__cedar`, which is reserved") };
+    ghost output = { λ e. Some (codes "the name `" ++ joined (components e.name)
+        ++ codes "` contains `__cedar`, which is reserved") };
 
     fn fmt<W: fmt::Write>(&self, f: &mut fmt::Formatter<W>) -> fmt::Result {
         let name = &self.name;

@@ -67,7 +67,10 @@ impl<'s> Parser<'s> {
     #[tactic(auto, unfolding(cedar_grammar::specs::Reading::accepted))]
     pub fn accept_keyword<'a>(&self, tokens: &mut Tokens<'_, 'a>, word: &str) -> Option<Lexeme<'a>>
         ensures read { option_map
-            (λ l. (lexeme_node self.now.source.now l, tokens_of self.now.source.now tokens.new.rest.now)) result
+            (λ l. (
+              lexeme_node self.now.source.now l,
+              tokens_of self.now.source.now tokens.new.rest.now,
+            )) result
             ≡ accepted (a_keyword word.now) (tokens_of self.now.source.now tokens.old.rest.now) }
         ensures word { IfSome result (λ l. l.text.now ≡ word.now) }
         ensures shorter { IfSome result
@@ -86,7 +89,10 @@ impl<'s> Parser<'s> {
     #[tactic(auto, unfolding(cedar_grammar::specs::Reading::accepted))]
     pub fn accept_mark<'a>(&self, tokens: &mut Tokens<'_, 'a>, mark: &str) -> Option<Lexeme<'a>>
         ensures read { option_map
-            (λ l. (lexeme_node self.now.source.now l, tokens_of self.now.source.now tokens.new.rest.now)) result
+            (λ l. (
+              lexeme_node self.now.source.now l,
+              tokens_of self.now.source.now tokens.new.rest.now,
+            )) result
             ≡ accepted (a_mark mark.now) (tokens_of self.now.source.now tokens.old.rest.now) }
         ensures shorter { IfSome result
             (λ _. length tokens.new.rest.now < length tokens.old.rest.now) }

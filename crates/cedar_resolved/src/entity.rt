@@ -49,7 +49,11 @@ fn action_entity(
 ) -> Mem<Entity>
     requires { IsStrictlySortedBy uid_cmp ancestors }
     ensures { IfOk result (λ entity. entity
-        ≡ record { uid = name.now; attributes = action_attributes action.now; ancestors = ancestors }) }
+        ≡ record {
+          uid = name.now;
+          attributes = action_attributes action.now;
+          ancestors = ancestors;
+        }) }
 {
     let uid = name.dup(alloc)?;
     let attributes = action.attribute_values().dup(alloc)?;

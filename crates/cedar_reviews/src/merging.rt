@@ -137,7 +137,8 @@ fn declared_by(
 ) -> Out<Fragment<RawName>, String>
     ensures made { IfOk result (λ made. Declares (extension_words extensions.now)
         (text_in (view item.now)) made) }
-    ensures told { IfRefused result (λ told. TellsParsing (text_in (view item.now)) (string_bytes told)) }
+    ensures told { IfRefused result (λ told. TellsParsing (text_in (view item.now))
+        (string_bytes told)) }
 {
     let text = item.as_str().unwrap_or("");
     match Fragment::from_cedarschema_str(alloc, text, extensions) {

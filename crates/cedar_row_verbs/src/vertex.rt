@@ -56,5 +56,6 @@ impl<K: TcKey> TcNode<K> for Vertex<K> {
         self.edges.iter()
     }
 
-    ghost whole = { λ a b same_key same_edges same_rest i. record { key = same_key i; edges = same_edges i; line = (same_rest i).line } };
+    ghost whole = { λ a b same_key same_edges same_rest i. record
+        { key = same_key i; edges = same_edges i; line = (same_rest i).line } };
 }

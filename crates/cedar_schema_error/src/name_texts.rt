@@ -83,7 +83,8 @@ fn write_unfound<W: fmt::Write>(others: &[EntityUID], f: &mut fmt::Formatter<W>)
 }
 
 impl fmt::Display for TypeShadowingError {
-    ghost output = { λ e. Some (shadowing_text (joined (components e.shadowing_def)) (joined (components e.shadowed_def))) };
+    ghost output = { λ e. Some (shadowing_text (joined (components e.shadowing_def))
+        (joined (components e.shadowed_def))) };
 
     fn fmt<W: fmt::Write>(&self, f: &mut fmt::Formatter<W>) -> fmt::Result {
         let new = &self.shadowing_def;
@@ -96,7 +97,8 @@ impl fmt::Display for TypeShadowingError {
 }
 
 impl fmt::Display for ActionShadowingError {
-    ghost output = { λ e. Some (shadowing_text (uid_text e.shadowing_def) (uid_text e.shadowed_def)) };
+    ghost output = { λ e. Some (shadowing_text (uid_text e.shadowing_def)
+        (uid_text e.shadowed_def)) };
 
     fn fmt<W: fmt::Write>(&self, f: &mut fmt::Formatter<W>) -> fmt::Result {
         let new = &self.shadowing_def;
@@ -118,7 +120,8 @@ impl fmt::Display for DuplicateEntityTypeError {
 }
 
 impl fmt::Display for DuplicateCommonTypeError {
-    ghost output = { λ e. Some (quoting (codes "duplicate common type ") (joined (components e.ty))) };
+    ghost output = { λ e. Some (quoting (codes "duplicate common type ")
+        (joined (components e.ty))) };
 
     fn fmt<W: fmt::Write>(&self, f: &mut fmt::Formatter<W>) -> fmt::Result {
         let ty = &self.ty;
@@ -136,7 +139,8 @@ impl fmt::Display for DuplicateActionError {
 }
 
 impl fmt::Display for CycleInCommonTypeReferencesError {
-    ghost output = { λ e. Some (quoting (codes "cycle in common type references containing ") (joined (components e.ty))) };
+    ghost output = { λ e. Some (quoting (codes "cycle in common type references containing ")
+        (joined (components e.ty))) };
 
     fn fmt<W: fmt::Write>(&self, f: &mut fmt::Formatter<W>) -> fmt::Result {
         let ty = &self.ty;
@@ -145,7 +149,8 @@ impl fmt::Display for CycleInCommonTypeReferencesError {
 }
 
 impl fmt::Display for CycleInActionHierarchyError {
-    ghost output = { λ e. Some (quoting (codes "cycle in action hierarchy containing ") (uid_text e.uid)) };
+    ghost output = { λ e. Some (quoting (codes "cycle in action hierarchy containing ")
+        (uid_text e.uid)) };
 
     fn fmt<W: fmt::Write>(&self, f: &mut fmt::Formatter<W>) -> fmt::Result {
         let uid = &self.uid;

@@ -97,7 +97,8 @@ impl fmt::Display for ContextOrShapeNotRecordError {
 }
 
 impl fmt::Display for ActionAttributesContainEmptySetError {
-    ghost output = { λ e. Some (codes "action `" ++ uid_text e.uid ++ codes "` has an attribute that is an empty set") };
+    ghost output = { λ e. Some (codes "action `" ++ uid_text e.uid
+        ++ codes "` has an attribute that is an empty set") };
 
     fn fmt<W: fmt::Write>(&self, f: &mut fmt::Formatter<W>) -> fmt::Result {
         let uid = &self.uid;
@@ -106,7 +107,8 @@ impl fmt::Display for ActionAttributesContainEmptySetError {
 }
 
 impl fmt::Display for UnsupportedActionAttributeError {
-    ghost output = { λ e. Some (codes "action `" ++ uid_text e.uid ++ codes "` has an attribute with unsupported JSON representation: " ++ e.attr) };
+    ghost output = { λ e. Some (codes "action `" ++ uid_text e.uid
+        ++ codes "` has an attribute with unsupported JSON representation: " ++ e.attr) };
 
     fn fmt<W: fmt::Write>(&self, f: &mut fmt::Formatter<W>) -> fmt::Result {
         let uid = &self.uid;
@@ -127,7 +129,8 @@ impl fmt::Display for ActionEntityTypeDeclaredError {
 }
 
 impl fmt::Display for UnknownExtensionTypeError {
-    ghost output = { λ e. Some (quoting (codes "unknown extension type ") (joined (name_words e.actual))) };
+    ghost output = { λ e. Some (quoting (codes "unknown extension type ")
+        (joined (name_words e.actual))) };
 
     fn fmt<W: fmt::Write>(&self, f: &mut fmt::Formatter<W>) -> fmt::Result {
         let actual = &self.actual;
@@ -136,7 +139,9 @@ impl fmt::Display for UnknownExtensionTypeError {
 }
 
 impl fmt::Display for CommonTypeInvariantViolationError {
-    ghost output = { λ e. Some (codes "internal invariant violated: failed to find a common-type definition for " ++ joined (components e.name)) };
+    ghost output = { λ e. Some (
+        codes "internal invariant violated: failed to find a common-type definition for "
+        ++ joined (components e.name)) };
 
     fn fmt<W: fmt::Write>(&self, f: &mut fmt::Formatter<W>) -> fmt::Result {
         let name = &self.name;
@@ -148,7 +153,8 @@ impl fmt::Display for CommonTypeInvariantViolationError {
 }
 
 impl fmt::Display for TooDeepError {
-    ghost output = { λ e. Some (codes "the type of `" ++ deep_text e.place ++ codes "` nests more than 128 sets and records") };
+    ghost output = { λ e. Some (codes "the type of `" ++ deep_text e.place
+        ++ codes "` nests more than 128 sets and records") };
 
     fn fmt<W: fmt::Write>(&self, f: &mut fmt::Formatter<W>) -> fmt::Result {
         let place = &self.place;
@@ -184,7 +190,8 @@ impl fmt::Display for ActionAttrEvalError {
 }
 
 impl fmt::Display for ActionTransitiveClosureError {
-    ghost output = { λ e. Some (codes "transitive closure computation/enforcement error on action hierarchy") };
+    ghost output = { λ e. Some (
+        codes "transitive closure computation/enforcement error on action hierarchy") };
 
     fn fmt<W: fmt::Write>(&self, f: &mut fmt::Formatter<W>) -> fmt::Result {
         write!(
@@ -195,7 +202,8 @@ impl fmt::Display for ActionTransitiveClosureError {
 }
 
 impl fmt::Display for EntityTypeTransitiveClosureError {
-    ghost output = { λ e. Some (codes "transitive closure computation/enforcement error on entity type hierarchy") };
+    ghost output = { λ e. Some (
+        codes "transitive closure computation/enforcement error on entity type hierarchy") };
 
     fn fmt<W: fmt::Write>(&self, f: &mut fmt::Formatter<W>) -> fmt::Result {
         write!(

@@ -28,7 +28,14 @@ impl Model for MemSink {
 
     ghost Value = { Store };
 
-    ghost view = { λ s. record { written = take s.filled s.buf.items; room = vec_len s.buf; most = s.most; calls = s.calls; fail_at = s.fail_at.items; faults = s.faults } };
+    ghost view = { λ s. record {
+      written = take s.filled s.buf.items;
+      room = vec_len s.buf;
+      most = s.most;
+      calls = s.calls;
+      fail_at = s.fail_at.items;
+      faults = s.faults;
+    } };
 
     ghost invariant = { λ s. s.filled ≤ vec_len s.buf };
 }
@@ -39,7 +46,14 @@ impl MemSink {
     /// where the room is full and the piece isn't empty. The first call is number 1.
     pub fn new(alloc: Global, most: usize, room: usize, fail_at: Vec<u64>) -> Mem<MemSink>
         ensures { IfOk result (λ sink. sink
-            ≡ record { written = []; room = room; most = most; calls = 0; fail_at = fail_at.items; faults = 0 }) }
+            ≡ record {
+              written = [];
+              room = room;
+              most = most;
+              calls = 0;
+              fail_at = fail_at.items;
+              faults = 0;
+            }) }
     {
         let buf = vec![in alloc; 0u8; room]?;
         Ok(MemSink {

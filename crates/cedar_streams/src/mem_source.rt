@@ -28,7 +28,13 @@ impl Model for MemSource {
 
     ghost Value = { Supply };
 
-    ghost view = { λ s. record { left = drop s.at s.bytes.items; most = s.most; calls = s.calls; fail_at = s.fail_at.items; faults = s.faults } };
+    ghost view = { λ s. record {
+      left = drop s.at s.bytes.items;
+      most = s.most;
+      calls = s.calls;
+      fail_at = s.fail_at.items;
+      faults = s.faults;
+    } };
 
     ghost invariant = { λ s. s.at ≤ vec_len s.bytes };
 }
@@ -38,7 +44,13 @@ impl MemSource {
     /// where its number is in `fail_at`. The first call is number 1.
     pub fn new(bytes: Vec<u8>, most: usize, fail_at: Vec<u64>) -> MemSource
         ensures { result
-            ≡ record { left = bytes.items; most = most; calls = 0; fail_at = fail_at.items; faults = 0 } }
+            ≡ record {
+              left = bytes.items;
+              most = most;
+              calls = 0;
+              fail_at = fail_at.items;
+              faults = 0;
+            } }
     {
         MemSource {
             bytes,

@@ -38,7 +38,8 @@ impl<T: Dup> Dup for Annotated<T> {
 impl<T: PartialEq> PartialEq for Annotated<T> {
     ghost eq = { λ a b. T.eq a.item b.item && annotations_eq a.annotations b.annotations };
 
-    ghost laws = { and_per (on_per (λ a. a.item) T.PartialEq.laws) (on_per (λ a. a.annotations) annotations-per) };
+    ghost laws = { and_per (on_per (λ a. a.item) T.PartialEq.laws)
+        (on_per (λ a. a.annotations) annotations-per) };
 
     fn eq(&self, other: &Self) -> bool {
         self.item == other.item && self.annotations == other.annotations
@@ -46,13 +47,16 @@ impl<T: PartialEq> PartialEq for Annotated<T> {
 }
 
 impl<T: Eq> Eq for Annotated<T> {
-    ghost laws = { and_equiv (on_equiv (λ a. a.item) T.Eq.laws) (on_equiv (λ a. a.annotations) annotations-equiv) };
+    ghost laws = { and_equiv (on_equiv (λ a. a.item) T.Eq.laws)
+        (on_equiv (λ a. a.annotations) annotations-equiv) };
 }
 
 impl<T: PartialOrd> PartialOrd for Annotated<T> {
-    ghost partial_cmp = { λ a b. partial_ordering_then (T.partial_cmp a.item b.item) (Some (annotations_cmp a.annotations b.annotations)) };
+    ghost partial_cmp = { λ a b. partial_ordering_then (T.partial_cmp a.item b.item)
+        (Some (annotations_cmp a.annotations b.annotations)) };
 
-    ghost laws = { then_po (on_po (λ a. a.item) T.PartialOrd.laws) (on_po (λ a. a.annotations) annotations-po) };
+    ghost laws = { then_po (on_po (λ a. a.item) T.PartialOrd.laws)
+        (on_po (λ a. a.annotations) annotations-po) };
 
     fn partial_cmp(&self, other: &Self) -> Option<Ordering> {
         match self.item.partial_cmp(&other.item) {
@@ -63,11 +67,14 @@ impl<T: PartialOrd> PartialOrd for Annotated<T> {
 }
 
 impl<T: Ord> Ord for Annotated<T> {
-    ghost cmp = { λ a b. ordering_then (T.cmp a.item b.item) (annotations_cmp a.annotations b.annotations) };
+    ghost cmp = { λ a b. ordering_then (T.cmp a.item b.item)
+        (annotations_cmp a.annotations b.annotations) };
 
-    ghost total = { then_total (on_total (λ a. a.item) T.total) (on_total (λ a. a.annotations) annotations-total) };
+    ghost total = { then_total (on_total (λ a. a.item) T.total)
+        (on_total (λ a. a.annotations) annotations-total) };
 
-    ghost matches_partial_cmp = { then_agrees (λ a b. T.matches_partial_cmp a.item b.item) (λ a b. refl) };
+    ghost matches_partial_cmp = { then_agrees (λ a b. T.matches_partial_cmp a.item b.item)
+        (λ a b. refl) };
 
     ghost matches_eq = { λ a b.
         both_tied _ _ (T.cmp a.item b.item) (annotations_cmp a.annotations b.annotations)
