@@ -92,7 +92,7 @@ impl ValidatorSchema {
     }
 
     /// The actions by their names.
-    pub(crate) fn by_action(&self) -> &Map<EntityUID, ValidatorActionId>
+    pub fn by_action(&self) -> &Map<EntityUID, ValidatorActionId>
         ensures { result.now ≡ action_types self.now }
     {
         &self.action_ids
