@@ -10,16 +10,18 @@ use Rattle.std.specs.Ordering.{is_eq, nat_cmp}
 use Rattle.std.specs.declared.cmp.Ordering.TheVariants.{Less}
 use Rattle.cedar_data.specs.Firsts.{AllPass}
 use Rattle.cedar_data.specs.Maps.{IsSortedMap}
+use Rattle.cedar_names.specs.declared.entity_uid.EntityUID.{EntityUID}
 use Rattle.cedar_names.specs.declared.name.EntityType.{EntityType}
-use Rattle.cedar_compat.specs.of_checks.SchemaViews.{entity_in, entity_of, schema_in}
-use Rattle.cedar_resolved.specs.Schemas.{types}
+use Rattle.cedar_compat.specs.of_checks.SchemaViews.{action_in, action_of, entity_in, entity_of, schema_in}
+use Rattle.cedar_resolved.specs.Schemas.{action_types, types}
+use Rattle.cedar_resolved.specs.declared.action.ValidatorActionId.{ValidatorActionId}
 use Rattle.cedar_resolved.specs.declared.entity_type.ValidatorEntityType.{ValidatorEntityType}
 use Rattle.cedar_resolved.specs.declared.schema.ValidatorSchema.{ValidatorSchema}
 use Rattle.cedar_types.specs.declared.ty.AttributeType.{AttributeType}
 use Rattle.cedar_unfold.proofs.ResolvedTypes.{resolved-attribute}
 use Rattle.cedar_unfold.specs.Resolved.{Resolved}
 use Rattle.cedar_unfold.specs.ResolvedViews.{resolved, resolved_attribute, resolved_map}
-use Rattle.cedar_compat_laws.specs.NamesDiffer.{NamesDiffer, AllNamesDiffer, TypeNamesDiffer, KindNamesDiffer}
+use Rattle.cedar_compat_laws.specs.NamesDiffer.{NamesDiffer, AllNamesDiffer, ContextNamesDiffer, TypeNamesDiffer, KindNamesDiffer}
 use Rattle.cedar_conform.specs.Fits.{has_attribute}
 
 abbrev pub Row : Type 0
@@ -56,23 +58,38 @@ DifferSoFar-end sofar none = sofar.leads (subst (λ es. NamesDiffer (resolved_ma
 
 pub ruleset each_name_differs = (DifferSoFar-start, DifferSoFar-next, DifferSoFar-end)
 
--- ---- entity types
+-- ---- entity types and actions
 
-all-types : (es : List (EntityType × ValidatorEntityType)) → AllPass (λ ty. KindNamesDiffer (entity_of ty).kind) (values_of es) → AllPass (λ e. KindNamesDiffer e.1.kind) (map entity_in es)
+-- a loop that has `left` before it has found each one before distinct: where those that are left are so too, all are
+pub record DifferAll {A : Type 0} (Differs : A → Type 0) (All : Type 0) (left : List A) : Type 0 where
+  pub leads : AllPass Differs left → All
+
+module _ {A : Type 0} {Differs : A → Type 0} {All : Type 0} where
+  pub DifferAll-next : {left rest : List A} {x : A} → DifferAll Differs All left → left ≡ x ∷ rest → Differs x → DifferAll Differs All rest
+  DifferAll-next sofar at_left distinct = record { leads = λ others. sofar.leads (subst (AllPass Differs) (sym at_left) (distinct, others)) }
+
+  pub DifferAll-end : {left : List A} → DifferAll Differs All left → left ≡ [] → All
+  DifferAll-end sofar none = sofar.leads (subst (AllPass Differs) (sym none) tt)
+
+-- in an entity type, and in the context of an action
+abbrev pub TypeDiffers : ValidatorEntityType → Type 0
+TypeDiffers ty = KindNamesDiffer (entity_of ty).kind
+
+abbrev pub ContextDiffers : ValidatorActionId → Type 0
+ContextDiffers action = TypeNamesDiffer (action_of action).context
+
+all-types : (es : List (EntityType × ValidatorEntityType)) → AllPass TypeDiffers (values_of es) → AllPass (λ e. KindNamesDiffer e.1.kind) (map entity_in es)
 all-types [] all = tt
 all-types (e ∷ es) all = (all.0, all-types es all.1)
 
--- a loop over the entity types of the schema that has `left` before it has found each one before distinct
-pub record DifferTypes (S : ValidatorSchema) (left : List ValidatorEntityType) : Type 0 where
-  pub leads : AllPass (λ ty. KindNamesDiffer (entity_of ty).kind) left → AllNamesDiffer (schema_in S)
+all-contexts : (es : List (EntityUID × ValidatorActionId)) → AllPass ContextDiffers (values_of es) → AllPass (λ a. TypeNamesDiffer a.1.context) (map action_in es)
+all-contexts [] all = tt
+all-contexts (e ∷ es) all = (all.0, all-contexts es all.1)
 
-pub DifferTypes-start : (S : ValidatorSchema) (left : List ValidatorEntityType) → left ≡ values_of (types S) → DifferTypes S left
-DifferTypes-start S left all = record { leads = λ distinct. all-types (types S) (subst (λ tys. AllPass (λ ty. KindNamesDiffer (entity_of ty).kind) tys) all distinct) }
+pub DifferTypes-start : (S : ValidatorSchema) (left : List ValidatorEntityType) → left ≡ values_of (types S) → DifferAll TypeDiffers (AllNamesDiffer (schema_in S)) left
+DifferTypes-start S left all = record { leads = λ distinct. all-types (types S) (subst (AllPass TypeDiffers) all distinct) }
 
-pub DifferTypes-next : {S : ValidatorSchema} {left rest : List ValidatorEntityType} {ty : ValidatorEntityType} → DifferTypes S left → left ≡ ty ∷ rest → KindNamesDiffer (entity_of ty).kind → DifferTypes S rest
-DifferTypes-next sofar at_left distinct = record { leads = λ others. sofar.leads (subst (λ tys. AllPass (λ ty. KindNamesDiffer (entity_of ty).kind) tys) (sym at_left) (distinct, others)) }
+pub DifferContexts-start : (S : ValidatorSchema) (left : List ValidatorActionId) → left ≡ values_of (action_types S) → DifferAll ContextDiffers (ContextNamesDiffer (schema_in S)) left
+DifferContexts-start S left all = record { leads = λ distinct. all-contexts (action_types S) (subst (AllPass ContextDiffers) all distinct) }
 
-pub DifferTypes-end : {S : ValidatorSchema} {left : List ValidatorEntityType} → DifferTypes S left → left ≡ [] → AllNamesDiffer (schema_in S)
-DifferTypes-end sofar none = sofar.leads (subst (λ tys. AllPass (λ ty. KindNamesDiffer (entity_of ty).kind) tys) (sym none) tt)
-
-pub ruleset each_type_differs = (DifferTypes-start, DifferTypes-next, DifferTypes-end)
+pub ruleset each_one_differs = (DifferTypes-start, DifferContexts-start, DifferAll-next, DifferAll-end)

@@ -33,3 +33,7 @@ KindNamesDiffer (EnumeratedKind ids) = ⊤
 -- in each entity type
 abbrev pub AllNamesDiffer : Schema → Type 0
 AllNamesDiffer S = AllPass (λ e. KindNamesDiffer e.1.kind) S.entity_types
+
+-- in the context of each action
+abbrev pub ContextNamesDiffer : Schema → Type 0
+ContextNamesDiffer S = AllPass (λ a. TypeNamesDiffer a.1.context) S.actions

@@ -3,7 +3,7 @@ ghost use Rattle.std.specs.Option.{option_copied, option_map};
 ghost use Rattle.cedar_compat.specs.of_checks.SchemaViews.{entity_of, schema_in};
 ghost use Rattle.cedar_types.specs.Types.{entries};
 ghost use Rattle.cedar_unfold.specs.ResolvedViews.{resolved, resolved_map};
-ghost use Rattle.cedar_compat_laws.specs.NamesDiffer.{NamesDiffer, AllNamesDiffer, TypeNamesDiffer, KindNamesDiffer, TagNamesDiffer};
+ghost use Rattle.cedar_compat_laws.specs.NamesDiffer.{NamesDiffer, AllNamesDiffer, ContextNamesDiffer, TypeNamesDiffer, KindNamesDiffer, TagNamesDiffer};
 
 use cedar_resolved::{ValidatorEntityType, ValidatorEntityTypeKind, ValidatorSchema};
 use cedar_types::{Attributes, Type, TypeView};
@@ -54,12 +54,33 @@ fn entity_type_names_differ(ty: &ValidatorEntityType)
     }
 }
 
-/// A law: in no record of a schema have two attributes the same name. It changes nothing when it runs.
-#[tactic(auto, using(crate::proofs::NameLoops::each_type_differs))]
-pub fn names_differ(schema: &ValidatorSchema)
+/// A law: in no record of an entity type of the schema have two attributes the same name. It changes nothing when it
+/// runs.
+#[tactic(auto, using(crate::proofs::NameLoops::each_one_differs))]
+fn all_types_differ(schema: &ValidatorSchema)
     ensures { AllNamesDiffer (schema_in schema.now) }
 {
     for ty in schema.entity_types() {
         entity_type_names_differ(ty);
     }
+}
+
+/// The same of the contexts of actions.
+#[tactic(auto, using(crate::proofs::NameLoops::each_one_differs))]
+fn all_contexts_differ(schema: &ValidatorSchema)
+    ensures { ContextNamesDiffer (schema_in schema.now) }
+{
+    for action in schema.action_ids() {
+        type_names_differ(action.context());
+    }
+}
+
+/// A law: in no record of a schema have two attributes the same name, neither in what entities of a type have nor in the
+/// context of an action. It changes nothing when it runs.
+pub fn names_differ(schema: &ValidatorSchema)
+    ensures entity_types { AllNamesDiffer (schema_in schema.now) }
+    ensures contexts { ContextNamesDiffer (schema_in schema.now) }
+{
+    all_types_differ(schema);
+    all_contexts_differ(schema);
 }

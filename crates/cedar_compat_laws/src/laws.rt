@@ -1,6 +1,10 @@
 // SPDX-License-Identifier: Apache-2.0
 ghost use Rattle.std.specs.Prelude.{IfOk};
 ghost use Rattle.serde_json.specs.Data.{Data};
+ghost use Rattle.cedar_data.specs.Answers.{IfRefused};
+ghost use Rattle.cedar_compat.specs.BreakChecks.{schema_check};
+ghost use Rattle.cedar_compat.specs.Changes.{type_break};
+ghost use Rattle.cedar_compat.specs.Checks.{Tells};
 ghost use Rattle.cedar_compat.specs.Compatible.{Compatible};
 ghost use Rattle.cedar_compat_laws.specs.NamesDiffer.{AllNamesDiffer};
 ghost use Rattle.cedar_conform.specs.Entities.{AreEntities};
@@ -21,14 +25,18 @@ pub fn old_data_stays_valid()
         → AreEntities R d }
 {}
 
-/// Asks `compatible`. Where it accepts the new schema, each list of entities of the old one is a list of entities of the
-/// new one.
+/// Answers what `compatible` does. Where it accepts the new schema, each list of entities of the old one is a list of
+/// entities of the new one.
 pub fn compatible_with_data(
     alloc: Global,
     old: &ValidatorSchema,
     new: &ValidatorSchema,
 ) -> Out<(), CompatFault>
-    ensures { IfOk result (λ _. (d : Data) → AreEntities (schema_in old.now) d
+    ensures told { Tells type_break result (schema_check (schema_in old.now) (schema_in new.now)) }
+    ensures fits { IfOk result (λ _. Compatible (schema_in old.now) (schema_in new.now)) }
+    ensures unfit { IfRefused result (λ _. Compatible (schema_in old.now) (schema_in new.now)
+        → ⊥) }
+    ensures data { IfOk result (λ _. (d : Data) → AreEntities (schema_in old.now) d
         → AreEntities (schema_in new.now) d) }
 {
     old_data_stays_valid();

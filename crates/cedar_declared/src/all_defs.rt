@@ -47,7 +47,7 @@ impl AllDefs {
     ghost use Rattle.std.specs.Prelude.{OnOk, OnErr};
     ghost use Rattle.cedar_declared.specs.TypeNames.{AddsName};
 
-    /// Puts the name to the declared common types. It fails only for want of memory, and then changes nothing.
+    /// Adds the name to the declared common types. It fails only for want of memory, and then changes nothing.
     pub fn mark_as_defined_as_common_type(&mut self, name: InternalName) -> Mem<()>
         ensures adds { OnOk result
             (AddsName (names_of self.old).common_types (names_of self.new).common_types name) }

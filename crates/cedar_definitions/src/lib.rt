@@ -1,5 +1,5 @@
 // SPDX-License-Identifier: Apache-2.0
-//! Definitions of namespaces under full names, and how they are made from the declarations of a schema.
+//! Definitions of namespaces under full names: their structures, copies and small calls.
 #![tactic(auto)]
 
 mod calls;

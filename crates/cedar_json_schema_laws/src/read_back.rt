@@ -1,7 +1,7 @@
 // SPDX-License-Identifier: Apache-2.0
-ghost use Rattle.std.specs.Prelude.{◌≡◌};
+ghost use Rattle.std.specs.Prelude.{◌≡◌, IfOk};
 ghost use Rattle.cedar_convert_fragment.specs.Views.{fragment_seen};
-ghost use Rattle.cedar_data.specs.Answers.{Accepts};
+ghost use Rattle.cedar_data.specs.Answers.{Accepts, IfRefused};
 ghost use Rattle.cedar_fragment_world.specs.FragmentWorlds.{world_of_fragment};
 ghost use Rattle.cedar_json_written_laws.specs.Writable.{WritableFragment};
 ghost use Rattle.cedar_names.specs.Extensions.{extension_words};
@@ -20,14 +20,22 @@ use cedar_schema_error::SchemaError;
 use cedar_schema_json::SchemaJson;
 use std::alloc::Global;
 
-/// The schema that is read back from what is written of a fragment in JSON. Where the fragment is sound and may be
-/// written, it is the schema that the fragment denotes, and is not refused.
+/// The schema that is read back from what is written of a fragment in JSON: the one that this denotes, in which nothing
+/// has a place, or refused as that is. Where the fragment is sound and may be written, it is the schema that the fragment
+/// denotes, and is not refused.
 pub fn written_and_read_back(
     alloc: Global,
     fragment: &Fragment<RawName>,
     extensions: &Extensions,
 ) -> Out<ValidatorSchema, SchemaError>
-    ensures { WritableFragment fragment.now
+    ensures denotes { IfOk result (λ schema. DenotesSchema
+        (IsFragment (fragment_json fragment.now)) (extension_words extensions.now)
+        (schema_in schema)) }
+    ensures consistent { IfOk result IsConsistent }
+    ensures unplaced { IfOk result IsUnplaced }
+    ensures refused { IfRefused result (JsonCause (IsFragment (fragment_json fragment.now))
+        (fragment_fault (fragment_json fragment.now)) (extension_words extensions.now)) }
+    ensures same { WritableFragment fragment.now
         → SoundFragment ProhibitAttributes (extension_words extensions.now)
         (fragment_seen fragment.now)
         → Accepts (λ schema. Denotes

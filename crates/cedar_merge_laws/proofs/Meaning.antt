@@ -5,7 +5,9 @@ use Rattle.std.proofs.lemmas.List.{append-nil, map-append}
 use Rattle.std.proofs.lemmas.List.Elements.{filter_map-append}
 use Rattle.std.specs.List.{AllZip, cons_option, filter, filter_map, flat_map}
 use Rattle.std.specs.Map.{keys_of}
-use Rattle.std.specs.Prelude.{⊤}
+use Rattle.std.specs.Prelude.{⊤, IfOk}
+use Rattle.std.specs.declared.result.Result.{Result}
+use Rattle.std.specs.declared.result.Result.TheVariants.{Ok, Err}
 use Rattle.std.specs.Option.{is_some}
 use Rattle.std.specs.Str.{bytes_eq}
 use Rattle.cedar_data.proofs.Passing.{AllPass-append, AllPass-back, AllPass-front}
@@ -28,7 +30,7 @@ use Rattle.cedar_fragment_world.specs.FragmentFaults.{action_faults, action_type
 use Rattle.cedar_fragment_world.specs.FragmentWorlds.{action_at, common_at, entity_at, namespace_of, namespaces_of, world_of_fragment}
 use Rattle.cedar_fragment_world.proofs.NamespacesSeen.{namespaces_are}
 use Rattle.cedar_merge.specs.Lookups.{Declaration, Definition, Fragment, Path, Place, action, common_type, common_word, entity_type, path_of}
-use Rattle.cedar_merge.specs.Merged.{Merged, NoClash}
+use Rattle.cedar_merge.specs.Merged.{Merged, NoClash, NoConflict}
 use Rattle.cedar_merge.specs.declared.errors.DeclKind.TheVariants.{Common, Entity, Action}
 use Rattle.cedar_merge_laws.specs.Together.{InOrder, MeansTogether, all_namespaces, seen_together}
 use Rattle.cedar_merge_laws.proofs.Listing.{Row, row, rows, rows_of}
@@ -353,6 +355,11 @@ means_together L F sorted none merged =
       sound = λ b X. (sound_there b X F.0 ms r, sound_there b X ms F.0 (turned r));
       denotes = λ b X S h. (denotes_there b X F.0 ms r S (sound_there b X ms F.0 (turned r) h), denotes_there b X ms F.0 (turned r) S h);
     }
+
+-- where a call accepts only what is merged of fragments that are apart
+pub merged-together : {E : Type 0} (L : List Fragment) (result : Result Fragment E) → AllPass (λ f. InOrder (fragment_seen f)) L → IfOk result (Merged L) → IfOk result (λ F. NoClash L × NoConflict L) → IfOk result (MeansTogether L)
+merged-together L (Ok F) sorted merged apart = means_together L F sorted apart.0 merged
+merged-together L (Err e) sorted merged apart = tt
 
 -- ---- definitions
 

@@ -3,13 +3,15 @@ ghost use Rattle.std.specs.Prelude.{◌≡◌, List, map, IfOk};
 ghost use Rattle.std.specs.List.{AllZip, flat_map};
 ghost use Rattle.std.specs.List.Sorted.{IsPermutation};
 ghost use Rattle.cedar_convert_fragment.specs.Views.{fragment_seen};
+ghost use Rattle.cedar_data.specs.Answers.{IfRefused};
 ghost use Rattle.cedar_data.specs.Firsts.{AllPass};
 ghost use Rattle.cedar_definitions.specs.Structures.{definitions_of};
 ghost use Rattle.cedar_definitions.specs.declared.structures.ValidatorSchemaFragment.{ValidatorSchemaFragment};
 ghost use Rattle.cedar_fragment.specs.ActionUids.{over_conditional};
 ghost use Rattle.cedar_fragment_world.specs.FragmentWorlds.{namespaces_of};
 ghost use Rattle.cedar_merge.specs.Lookups.{Fragment as Held};
-ghost use Rattle.cedar_merge.specs.Merged.{Merged, NoClash};
+ghost use Rattle.cedar_merge.specs.Merged.{Merged, NoClash, NoConflict};
+ghost use Rattle.cedar_merge.specs.Texts.{TellsClash, TellsConflict};
 ghost use Rattle.cedar_merge_laws.specs.Together.{InOrder, MeansTogether, said, seen_together};
 ghost use Rattle.cedar_namespace_definitions.specs.Definitions.{AreDefinitionsOf};
 ghost use Rattle.cedar_world.specs.DefinitionViews.{namespace_in};
@@ -46,16 +48,19 @@ pub fn orders_of_merged()
         → said (fragment_seen F) ≡ said (fragment_seen G) }
 {}
 
-/// Asks `merge`. The fragment that it answers declares what all fragments do together, is sound where they are, and then
-/// denotes the same schema.
+/// Answers what `merge` does. The fragment that it answers declares what all fragments do together, is sound where they
+/// are, and then denotes the same schema.
 pub fn merge_as_one(
     alloc: Global,
     fragments: Vec<Fragment<RawName>>,
 ) -> Out<Fragment<RawName>, MergeError>
-    ensures { IfOk result (MeansTogether fragments.items) }
+    ensures merged { IfOk result (Merged fragments.items) }
+    ensures apart { IfOk result (λ _. NoClash fragments.items × NoConflict fragments.items) }
+    ensures clash { IfRefused result (TellsClash fragments.items) }
+    ensures conflict { IfRefused result (TellsConflict fragments.items) }
+    ensures together { IfOk result (MeansTogether fragments.items) }
 {
     meaning_together();
     fragments_in_order(fragments.as_slice());
-    let merged = merge(alloc, fragments)?;
-    Ok(merged)
+    merge(alloc, fragments)
 }

@@ -1,3 +1,3 @@
 // SPDX-License-Identifier: Apache-2.0
-//! Laws of what is printed.
+//! The tokens that a fragment has in the human syntax, the tree that these are, and the fragment that is read again.
 #![tactic(auto)]

@@ -1,3 +1,3 @@
 // SPDX-License-Identifier: Apache-2.0
-//! Laws of what is printed.
+//! Proofs that what is printed of a fragment are its tokens, none of which runs into the next.
 #![tactic(auto)]

@@ -20,7 +20,7 @@ pub fn ancestors_descend(schema: &ValidatorSchema)
 }
 
 /// A law: an action with one of its principals and one of its resources stands once among the request environments,
-/// and any other three stand there not at all. It changes nothing.
+/// and any other three don't stand there. It changes nothing.
 pub fn environments_once(schema: &ValidatorSchema)
     ensures { (principal : EntityType) (action : EntityUID) (resource : EntityType)
         → count_by (is_of principal action resource) (environments_of_all (action_types schema.now))

@@ -32,7 +32,7 @@ impl Dup for ActionNotDefinedError {
     }
 }
 
-/// Names that mean entity types, and are none.
+/// Names that must be entity types and aren't declared as such.
 #[derive(Debug, Drop)]
 pub struct UndeclaredEntityTypesError {
     /// The names, in order.

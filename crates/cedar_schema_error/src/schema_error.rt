@@ -26,7 +26,7 @@ pub enum SchemaError {
     JsonSerialization(JsonSerializationError),
     /// The schema uses what is not supported.
     UnsupportedFeature(UnsupportedFeatureError),
-    /// Names that mean entity types are none.
+    /// Names that must be entity types aren't declared as such.
     UndeclaredEntityTypes(UndeclaredEntityTypesError),
     /// References to types mean nothing that is declared.
     TypeNotDefined(TypeNotDefinedError),
@@ -60,7 +60,7 @@ pub enum SchemaError {
     ExprEscapeUsed(ExprEscapeUsedError),
     /// A name is that of no extension type.
     UnknownExtensionType(UnknownExtensionTypeError),
-    /// A name means a common type, and is none.
+    /// A name stands for a common type that has no definition.
     CommonTypeInvariantViolation(CommonTypeInvariantViolationError),
     /// Actions have no definition, though each should.
     ActionInvariantViolation(ActionInvariantViolationError),

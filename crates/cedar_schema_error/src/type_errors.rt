@@ -54,7 +54,7 @@ impl Dup for ContextOrShape {
 /// The schema uses what is not supported.
 #[derive(Debug, Drop)]
 pub struct UnsupportedFeatureError {
-    /// What that is.
+    /// The feature.
     pub feature: UnsupportedFeature,
 }
 
@@ -133,7 +133,7 @@ impl Dup for UnknownExtensionTypeError {
     }
 }
 
-/// The name means a common type, and is none.
+/// The name stands for a common type that has no definition.
 #[derive(Debug, Drop)]
 pub struct CommonTypeInvariantViolationError {
     /// The name.

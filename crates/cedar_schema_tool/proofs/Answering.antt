@@ -4,7 +4,7 @@ use Rattle.std.proofs.Common.{◌≡◌, ℕ, ◌<◌, ◌≤◌, List, length, 
 use Rattle.cedar_answers.specs.Answers.{IsAcceptance, Sunk}
 use Rattle.cedar_answers.specs.Making.{Accepts}
 use Rattle.cedar_commands.specs.Asking.{AskFor}
-use Rattle.cedar_commands.specs.CommandLine.{AreNamed}
+use Rattle.cedar_commands.specs.CommandLine.{AreNamed, Asks}
 use Rattle.cedar_commands.specs.declared.command.Command.{Command}
 use Rattle.cedar_commands.specs.declared.command.Command.TheVariants.{Resolve, ResolveJson, Check, ToJson, ToCedar, Review, Bench}
 use Rattle.cedar_commands.specs.declared.status.Status.{Status}
@@ -15,7 +15,7 @@ use Rattle.cedar_names.specs.Extensions.{extension_words}
 use Rattle.cedar_names.specs.declared.extensions.Extensions.{Extensions}
 use Rattle.cedar_streams.proofs.Known.{GivesAll-is, GivesMoreThan-had}
 use Rattle.cedar_schema_tool.specs.Answering.{AcceptsBytes, AcceptsSource, AnswersBytes, AnswersSource, AnswersText, err_of, out_of}
-use Rattle.cedar_schema_tool.specs.Running.{AcceptsGiven, AskToRead, IsGiven, IsReading, Reads, ReadsText, ReadTooMuch, Runs, SameSource, Streams, Works, WorksOn, longest_text}
+use Rattle.cedar_schema_tool.specs.Running.{AcceptsGiven, AskToRead, IsGiven, IsReading, Reads, ReadsText, ReadTooMuch, ReadWithin, Runs, SameSource, StoppedReading, Streams, Works, WorksOn, longest_text}
 
 -- a sink of which the same is known
 same_sunk : {s t : Sunk} → t ≡ s → (t.bytes ≡ s.bytes) × (t.faults ≡ s.faults)
@@ -42,13 +42,17 @@ pub text-accepts : (command : Command) (bytes text : List ℕ) (extensions : Lis
     → (Accepts command text extensions → IsAcceptance status) → AcceptsBytes command bytes extensions status
 text-accepts command bytes text extensions status same a utf8 accepts = same-accepts command text bytes extensions status same a accepts
 
+-- a source that was read to its end gave no more than it may, and did not fail
+stopped : (before after : Streams) (text : List ℕ) → Reads before after text → StoppedReading before after
+stopped before after text reads = (record { bytes = text; gives = reads.all.gives; within = reads.all.within }, reads.calm)
+
 module _ (command : Command) (extensions : List (List ℕ)) (before after : Streams) (bytes : List ℕ) (reads : Reads before after bytes) where
   text-source : (status : Status) → IsUtf8 bytes → AnswersText command bytes extensions (out_of before) (out_of after) (err_of before) (err_of after) status
       → AnswersSource command extensions before after status
   text-source Done utf8 a = (bytes, (reads, utf8), a)
   text-source Refused utf8 a = (bytes, (reads, utf8), a)
   text-source WriteFault utf8 a = (bytes, (reads, utf8), a)
-  text-source NoMemory utf8 a = (same_sunk a.0, same_sunk a.1)
+  text-source NoMemory utf8 a = (stopped before after bytes reads, same_sunk a.0, same_sunk a.1)
   text-source Usage utf8 a = absurd a
   text-source ReadFault utf8 a = absurd a
   text-source NotUtf8 utf8 a = absurd a
@@ -72,11 +76,25 @@ too_long-accepts command extensions before after status much text left within ut
 
 -- ---- what the words ask for, and the text that it is done with
 
+-- what was read for the text that a command works on
+module _ (words : List (List ℕ)) (before after : Streams) where
+  read-within : (command : Command) (names : List (List ℕ)) → Asks words command names → (text : List ℕ) → WorksOn command before after text → ReadWithin words before after
+  read-within Resolve names asks text on = inr ((Resolve, names, asks, tt), stopped before after text on.0)
+  read-within ResolveJson names asks text on = inr ((ResolveJson, names, asks, tt), stopped before after text on.0)
+  read-within Check names asks text on = inr ((Check, names, asks, tt), stopped before after text on.0)
+  read-within ToJson names asks text on = inr ((ToJson, names, asks, tt), stopped before after text on.0)
+  read-within ToCedar names asks text on = inr ((ToCedar, names, asks, tt), stopped before after text on.0)
+  read-within (Review review) names asks text on = inr ((Review review, names, asks, tt), stopped before after text on.0)
+  read-within (Bench n) names asks text on = inl on.0
+
 module _ (words : List (List ℕ)) (command : Command) (x : Extensions) (found : AskFor words command x) (before after : Streams) where
   -- of one text
   module _ (text : List ℕ) (on : WorksOn command before after text) where
     works : Works words before after command text (extension_words x)
     works = record { names = found.0; asks = found.1; known = found.2; on = on }
+
+    within : ReadWithin words before after
+    within = read-within words before after command found.0 found.1 text on
 
     -- what is written of it, or that memory failed
     pub text-runs : (status : Status) → AnswersText command text (extension_words x) (out_of before) (out_of after) (err_of before) (err_of after) status
@@ -85,7 +103,7 @@ module _ (words : List (List ℕ)) (command : Command) (x : Extensions) (found :
     text-runs Refused a = (a.0, (command, text, extension_words x, works, a.1), a.2.0, a.2.1, same_sunk a.3)
     text-runs WriteFault (inl a) = inl (a.0, (command, text, extension_words x, works, a.1), a.2.0, a.2.1, same_sunk a.3)
     text-runs WriteFault (inr a) = inr (a.0, (command, text, extension_words x, works, a.1), a.2.0, a.2.1, same_sunk a.3)
-    text-runs NoMemory a = (same_sunk a.0, same_sunk a.1)
+    text-runs NoMemory a = (within, same_sunk a.0, same_sunk a.1)
     text-runs Usage a = absurd a
     text-runs ReadFault a = absurd a
     text-runs NotUtf8 a = absurd a
@@ -131,7 +149,7 @@ module _ (words : List (List ℕ)) (command : Command) (x : Extensions) (found :
   source-runs ReadFault a = (to_read, a.0, a.1, a.2)
   source-runs TooLong a = (to_read, a.0, a.1, a.2)
   source-runs NotUtf8 a = (to_read, a.0, a.1, a.2, a.3, a.4)
-  source-runs NoMemory a = a
+  source-runs NoMemory a = (inr (to_read, a.0), a.1)
   source-runs Done a = text-runs words command x found before after a.0 (works-read command before after a.0 reading a.1) Done a.2
   source-runs Refused a = text-runs words command x found before after a.0 (works-read command before after a.0 reading a.1) Refused a.2
   source-runs WriteFault a = text-runs words command x found before after a.0 (works-read command before after a.0 reading a.1) WriteFault a.2

@@ -6,7 +6,7 @@ use Rattle.cedar_answers.specs.Making.{Accepts, Makes, Tells}
 use Rattle.cedar_commands.specs.declared.command.Command.{Command}
 use Rattle.cedar_commands.specs.declared.status.Status.{Status}
 use Rattle.cedar_commands.specs.declared.status.Status.TheVariants.{Done, Refused, Usage, ReadFault, WriteFault, NotUtf8, TooLong, NoMemory}
-use Rattle.cedar_schema_tool.specs.Running.{FailedReading, Reads, ReadsText, ReadTooMuch, SameErr, SameOut, Streams, longest_text}
+use Rattle.cedar_schema_tool.specs.Running.{FailedReading, Reads, ReadsText, ReadTooMuch, SameErr, SameOut, StoppedReading, Streams, longest_text}
 
 -- ---- bytes
 
@@ -45,7 +45,7 @@ AnswersSource command extensions before after ReadFault = FailedReading before a
 AnswersSource command extensions before after TooLong = ReadTooMuch before after × SameOut before after × SameErr before after
 AnswersSource command extensions before after NotUtf8 =
     (bytes : List ℕ) × Reads before after bytes × (IsUtf8 bytes → ⊥) × SameOut before after × SameErr before after
-AnswersSource command extensions before after NoMemory = SameOut before after × SameErr before after
+AnswersSource command extensions before after NoMemory = StoppedReading before after × SameOut before after × SameErr before after
 AnswersSource command extensions before after Done = AnswersRead command extensions before after Done
 AnswersSource command extensions before after Refused = AnswersRead command extensions before after Refused
 AnswersSource command extensions before after WriteFault = AnswersRead command extensions before after WriteFault

@@ -53,6 +53,10 @@ FailedReading before after = GivesAtMost longest_text before.left after.left × 
 abbrev pub ReadTooMuch : Streams → Streams → Type 0
 ReadTooMuch before after = GivesMoreThan longest_text before.left after.left × (after.read_faults ≡ before.read_faults)
 
+-- the source gave no more bytes than a text may have, and did not fail
+abbrev pub StoppedReading : Streams → Streams → Type 0
+StoppedReading before after = GivesAtMost longest_text before.left after.left × (after.read_faults ≡ before.read_faults)
+
 -- the source was read to its end, and what it gave is this text
 abbrev pub ReadsText : Streams → Streams → List ℕ → Type 0
 ReadsText before after text = Reads before after text × IsUtf8 text
@@ -91,6 +95,10 @@ AreAsking words = (command : Command) × (names : List (List ℕ)) × Asks words
 abbrev pub AskToRead : List (List ℕ) → Type 0
 AskToRead words = (command : Command) × (names : List (List ℕ)) × Asks words command names × IsReading command
 
+-- nothing was read, or the words ask to read, and the source gave no more bytes than a text may have and did not fail
+abbrev pub ReadWithin : List (List ℕ) → Streams → Streams → Type 0
+ReadWithin words before after = SameSource before after ⊎ (AskToRead words × StoppedReading before after)
+
 -- the words ask for a command on a text, with these extension types
 pub record Works (words : List (List ℕ)) (before after : Streams) (command : Command) (text : List ℕ) (extensions : List (List ℕ)) : Type 0 where
   pub names : List (List ℕ)
@@ -120,8 +128,8 @@ Runs words before after ReadFault = AskToRead words × FailedReading before afte
 Runs words before after TooLong = AskToRead words × ReadTooMuch before after × SameOut before after × SameErr before after
 -- the bytes that were read are no UTF-8
 Runs words before after NotUtf8 = AskToRead words × (bytes : List ℕ) × Reads before after bytes × (IsUtf8 bytes → ⊥) × SameOut before after × SameErr before after
--- want of memory
-Runs words before after NoMemory = SameOut before after × SameErr before after
+-- want of memory, before reading, while the source was read, or behind that
+Runs words before after NoMemory = ReadWithin words before after × SameOut before after × SameErr before after
 -- the text is refused, and the refusal stands on `err`, which didn't fail
 Runs words before after Refused = (told : List ℕ) × IsTold words before after told × Takes before.err after.err told × (after.err_faults ≡ before.err_faults) × SameOut before after
 -- the text is accepted, and what is due stands on `out`, which didn't fail

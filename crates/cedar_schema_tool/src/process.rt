@@ -35,7 +35,7 @@ fn run_on_streams(rt: &HostRuntime, words: &[String]) -> Status {
     let mut out = StdSink::new(buffer);
     let mut err = StdSink::new(rt.stderr());
     let status = run(rt.alloc(), words, &mut source, &mut out, &mut err);
-    if out.get_mut().flush().is_err() {
+    if status == Status::Done && out.get_mut().flush().is_err() {
         return Status::WriteFault;
     }
     status

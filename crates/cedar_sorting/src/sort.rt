@@ -18,7 +18,7 @@ pub enum Sorting {
 }
 
 /// Puts positions behind those to which they lead. The row at `i` has the positions to which `i` leads, some perhaps
-/// more than once. The time and the memory are linear in the lengths of the rows.
+/// more than once. Time and memory are made to be linear in the lengths of the rows, which is not measured.
 pub fn sort_positions(alloc: Global, rows: &[Items<usize>]) -> Mem<Sorting>
     requires { LeadWithin rows.now }
     ensures { IfOk result (Sorts rows.now) }

@@ -26,7 +26,7 @@ pub(crate) enum Fault {
     OpenRecord,
     /// The name is that of no extension type.
     UnknownExtension(UnreservedId),
-    /// The name means a common type, and is none.
+    /// The name stands for a common type that has no definition.
     NoCommonType(InternalName),
     /// The name means an entity type, and has the component `__cedar`.
     Reserved(InternalName),

@@ -1,5 +1,5 @@
 // SPDX-License-Identifier: Apache-2.0
-ghost use Rattle.std.specs.Prelude.{◌≡◌, ◌++◌, [], ◌∷◌, map, codes, IfOk, OnOk};
+ghost use Rattle.std.specs.Prelude.{◌≡◌, ◌++◌, [], ◌∷◌, Some, None, map, option_map, codes, IfOk, OnOk};
 ghost use Rattle.cedar_data.specs.Maps.{map_of};
 ghost use Rattle.cedar_declared.specs.Held.{names_of};
 ghost use Rattle.cedar_declared.specs.of_definitions.Structures.{definitions_of};
@@ -152,8 +152,10 @@ fn of_common_types(
     namespace: Option<InternalName>,
     types: Vec<CommonType>,
 ) -> Mem<Definition>
-    ensures { IfOk result (λ d. namespace_in d
+    ensures definitions { IfOk result (λ d. namespace_in d
         ≡ of_common_types (map_of words_cmp (map common_type_in types.items))) }
+    ensures name { IfOk result (λ d. d.namespace ≡ namespace) }
+    ensures unplaced { IfOk result (λ d. d.entity_types.locs ≡ []) }
 {
     let defs = Map::from_pairs(alloc, types)?;
     Ok(ValidatorNamespaceDef {
@@ -164,15 +166,21 @@ fn of_common_types(
     })
 }
 
-/// The definitions of the builtin types and of their aliases, where `own` has all names that are declared. A builtin
-/// type has no alias where a type of its name is declared in the unnamed namespace.
+/// The definitions of the builtin types, in the namespace `__cedar`, and of their aliases, in the unnamed one, where `own`
+/// has all names that are declared. A builtin type has no alias where a type of its name is declared in the unnamed
+/// namespace.
 pub fn builtin_definitions(
     alloc: Global,
     own: &AllDefs,
     extensions: &Extensions,
 ) -> Mem<ValidatorSchemaFragment<ConditionalName, ConditionalName>>
-    ensures { IfOk result (λ f. map namespace_in (definitions_of f)
+    ensures definitions { IfOk result (λ f. map namespace_in (definitions_of f)
         ≡ builtin_namespaces (names_of own.now) (extension_words extensions.now)) }
+    ensures names { IfOk result
+        (λ f. map (λ d. option_map components d.namespace) (definitions_of f)
+        ≡ Some (codes "__cedar" ∷ []) ∷ None ∷ []) }
+    ensures unplaced { IfOk result
+        (λ f. map (λ d. d.entity_types.locs) (definitions_of f) ≡ [] ∷ [] ∷ []) }
 {
     let cedar = InternalName::cedar(alloc)?;
     let types = builtin_types(alloc, extensions)?;

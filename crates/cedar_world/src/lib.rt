@@ -1,5 +1,5 @@
 // SPDX-License-Identifier: Apache-2.0
-//! The world of definitions: all that is declared, the builtin types and their aliases among it.
+//! The builtin types and their aliases, as definitions of namespaces.
 #![tactic(auto)]
 
 mod builtins;

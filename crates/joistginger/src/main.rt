@@ -1,6 +1,6 @@
 // SPDX-License-Identifier: Apache-2.0
-//! Reads a schema from standard input, and lists what it resolves to on standard output, or says on
-//! standard error why it is refused.
+//! Runs the command that the words ask for on standard input. What it makes is written to standard
+//! output, or on standard error why the input is refused.
 #![tactic(auto)]
 
 use cedar_schema_tool::run_process;
