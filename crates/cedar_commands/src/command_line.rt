@@ -1,5 +1,5 @@
 // SPDX-License-Identifier: Apache-2.0
-ghost use Rattle.std.specs.Prelude.{◌≡◌, ◌∷◌, [], ℕ, List, IfOk, MatchOption, None, map, codes};
+ghost use Rattle.std.specs.Prelude.{◌≡◌, ◌↔◌, ◌∷◌, [], ℕ, List, IfOk, IsTrue, MatchOption, None, map, codes, decimal};
 ghost use Rattle.std.specs.String.{string_bytes};
 ghost use Rattle.cedar_names.specs.ExtensionFaults.{extensions_fault};
 ghost use Rattle.cedar_names.specs.Extensions.{extension_words};
@@ -10,7 +10,6 @@ ghost use Rattle.cedar_commands.specs.Asking.{Found, Begin, BeginWithNone, Numbe
 use crate::command::{Command, Review};
 use cedar_data::{Failure, Mem, NoMemory, Text};
 use cedar_names::Extensions;
-use itoa::Buffer;
 use std::alloc::Global;
 
 /// The greatest size that `bench` takes.
@@ -75,11 +74,26 @@ fn size(word: &str) -> Option<u32>
     if size == 0 || size > GREATEST_SIZE {
         return None;
     }
-    let mut buffer = Buffer::new();
-    if buffer.format(size) != word {
+    if !is_decimal(word.as_bytes(), size) {
         return None;
     }
     Some(size)
+}
+
+/// Whether these are the decimal digits of the number, of which the first is no zero but that of zero itself.
+fn is_decimal(digits: &[u8], number: u32) -> bool
+    ensures { IsTrue result ↔ (digits.now ≡ decimal number) }
+{
+    let Some((last, front)) = digits.split_last() else {
+        return false;
+    };
+    if u32::from(*last) != 48 + number % 10 {
+        return false;
+    }
+    if number < 10 {
+        return front.is_empty();
+    }
+    is_decimal(front, number / 10)
 }
 
 /// The command that is this one word.

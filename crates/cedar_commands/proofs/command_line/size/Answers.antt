@@ -1,6 +1,7 @@
 -- SPDX-License-Identifier: Apache-2.0
-use Rattle.std.proofs.Common.{◌≡◌, ◌<◌, ◌⊎◌, inl, inr, ◌∙◌}
-use Rattle.cedar_commands.proofs.Asking.{number-unread, number-beyond, number-other, is_unequal}
+use Rattle.std.proofs.Common.{◌≡◌, ◌<◌, ◌⊎◌, inl, inr, sym, ◌∙◌}
+use Rattle.cedar_commands.proofs.Decimals.{untrue}
+use Rattle.cedar_commands.proofs.Asking.{number-unread, number-beyond, number-other}
 use Rattle.cedar_commands.proofs.command_line.size.Goals.{then-size-eq0-via-then-size-eq0, then-size-eq0-via-else-size-eq0+then-size-gt-GREATEST_SIZE}
 use Rattle.cedar_commands.proofs.command_line.size.Goals as goal
 
@@ -14,7 +15,7 @@ returns-then-size-eq0 c =
       | then-size-eq0-via-else-size-eq0+then-size-gt-GREATEST_SIZE w ↦ inr w.if-size-gt-GREATEST_SIZE.true
     ] in number-beyond c.args.word.now c.parse.result c.in-Ok.size c.parse.ensures.value.0 c.in-Ok.is beyond
 
-pub returns-then-ne : goal.returns-then-ne
-returns-then-ne c =
+pub returns-then-not-is_decimal : goal.returns-then-not-is_decimal
+returns-then-not-is_decimal c =
     number-other c.args.word.now c.parse.result c.in-Ok.size c.parse.ensures.value.0 c.in-Ok.is
-    (λ e. is_unequal c.format.result.now c.args.word.now c.ne.result c.ne.ensures c.if-ne.true (c.format.ensures.text ∙ e))
+    (λ e. untrue (sym c.if-not-is_decimal.true ∙ c.is_decimal.ensures.1 (c.as_bytes.ensures.value ∙ sym e)))
