@@ -2,3 +2,4 @@
 pub mod Counting
 pub mod Depths
 pub mod TypeTexts
+pub mod Digits

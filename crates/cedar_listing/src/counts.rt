@@ -1,5 +1,5 @@
 // SPDX-License-Identifier: Apache-2.0
-ghost use Rattle.std.specs.Prelude.{◌≡◌, length, decimal};
+ghost use Rattle.std.specs.Prelude.{◌≡◌, ◌<◌, length, decimal};
 ghost use Rattle.std.specs.List.{sum_by};
 ghost use Rattle.std.specs.Map.{values_of};
 ghost use Rattle.cedar_listing.specs.Counts.{below_action, below_type, count_text, counted, counts, descendants, environments, environments_of, line_of};
@@ -8,8 +8,7 @@ ghost use Rattle.cedar_streams.specs.Writes.{Writes};
 
 use cedar_convert_warnings::SchemaWarning;
 use cedar_resolved::{ValidatorActionId, ValidatorSchema};
-use cedar_streams::{Sink, SinkFailed, write_str};
-use itoa::Buffer;
+use cedar_streams::{Sink, SinkFailed, write_all, write_str};
 
 /// How many of each there are, each up to the greatest `u128`.
 #[derive(Drop)]
@@ -121,10 +120,21 @@ fn write_count<K: Sink>(count: u128, what: &str, out: &mut K) -> Result<(), Sink
     write_str(out, what)
 }
 
-/// Writes a number in decimal digits.
+/// Writes a number in decimal digits: those before the last, and then the last one.
 fn write_decimal<K: Sink>(number: u128, out: &mut K) -> Result<(), SinkFailed>
     ensures { Writes K.written K.faults out.old out.new (decimal number) result }
 {
-    let mut digits = Buffer::new();
-    write_str(out, digits.format(number))
+    if number < 10 {
+        return write_digit(number, out);
+    }
+    write_decimal(number / 10, out)?;
+    write_digit(number % 10, out)
+}
+
+/// Writes a number below ten.
+fn write_digit<K: Sink>(digit: u128, out: &mut K) -> Result<(), SinkFailed>
+    requires { digit < 10 }
+    ensures { Writes K.written K.faults out.old out.new (decimal digit) result }
+{
+    write_all(out, &[b'0' + digit as u8])
 }
