@@ -32,7 +32,8 @@ pub fn definitions(
     Ok(definitions_told(alloc, words, &definitions)?)
 }
 
-fn all_defined(
+/// The definitions that the fragment declares.
+pub(crate) fn all_defined(
     alloc: Global,
     fragment: &Fragment<RawName>,
     extensions: &Extensions,
@@ -84,7 +85,7 @@ fn add_names(lines: &mut Lines, words: &[&str], definitions: &Definitions) -> Me
 }
 
 /// Marks each word that is a name as a common type.
-fn mark_all(alloc: Global, names: &mut AllDefs, words: &[&str]) -> Mem<()> {
+pub(crate) fn mark_all(alloc: Global, names: &mut AllDefs, words: &[&str]) -> Mem<()> {
     for word in words {
         match InternalName::from_normalized_str(alloc, word) {
             Ok(name) => names.mark_as_defined_as_common_type(name)?,

@@ -6,9 +6,19 @@ use cedar_row_schema_lines::{CedarSchemaError, FragmentText, error_told};
 use cedar_schema_error::SchemaError;
 use std::alloc::Global;
 
-/// What is told of the definitions that the input declares and of each word; or what is said of why it is refused.
+/// What is told of the definitions that the input declares and of each word; or what is said of why
+/// it is refused.
 pub fn definitions(alloc: Global, words: &[&str], input: &str) -> Mem<String> {
     let made = lines_of(alloc, words, input);
+    let told = made_told(alloc, &made);
+    drop(made);
+    told
+}
+
+/// What each structure of the definitions is with full names that the input declares, where each
+/// word is declared as a common type; or what is said of why it is refused.
+pub fn full_names(alloc: Global, words: &[&str], input: &str) -> Mem<String> {
+    let made = full_lines_of(alloc, words, input);
     let told = made_told(alloc, &made);
     drop(made);
     told
@@ -27,6 +37,20 @@ fn lines_of(alloc: Global, words: &[&str], input: &str) -> Out<String, CedarSche
     let extensions = Extensions::all_available(alloc)?;
     match Fragment::from_cedarschema_str(alloc, input, &extensions) {
         Ok((fragment, _)) => as_schema_error(cedar_row_definitions::definitions(
+            alloc,
+            words,
+            &fragment,
+            &extensions,
+        )),
+        Err(failure) => Err(failure),
+    }
+}
+
+/// What is told of the structures that a text declares.
+fn full_lines_of(alloc: Global, words: &[&str], input: &str) -> Out<String, CedarSchemaError> {
+    let extensions = Extensions::all_available(alloc)?;
+    match Fragment::from_cedarschema_str(alloc, input, &extensions) {
+        Ok((fragment, _)) => as_schema_error(cedar_row_definitions::full_names(
             alloc,
             words,
             &fragment,

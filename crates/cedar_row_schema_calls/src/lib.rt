@@ -12,7 +12,7 @@ mod unnamed;
 
 pub use all_errors::joined_errors;
 use cedar_data::Mem;
-pub use declared::definitions;
+pub use declared::{definitions, full_names};
 pub use queried::{checked, queries};
 use std::alloc::Global;
 pub use two_attributes::two_longs;
@@ -24,6 +24,7 @@ pub fn answer(alloc: Global, verb: &str, words: &[&str], input: &str) -> Mem<Opt
     let lines = match verb {
         "checked" => checked(alloc, words, input),
         "definitions" => definitions(alloc, words, input),
+        "full-names" => full_names(alloc, words, input),
         "joined-errors" => joined_errors(alloc, input),
         "queries" => queries(alloc, words, input),
         "two-longs" => two_longs(alloc, input),
