@@ -4,9 +4,10 @@ use Rattle.std.specs.Prelude.{Bool, List, [], ◌∷◌, Option, Some, None, is_
 use Rattle.std.specs.List.{flat_map}
 use Rattle.std.specs.declared.cmp.Ordering.{Ordering}
 use Rattle.cedar_data.specs.Maps.{get}
+use Rattle.cedar_data.specs.Sets.{set_of}
 use Rattle.cedar_names.specs.Components.{internal_name, qualified}
 use Rattle.cedar_names.specs.Identifiers.{id_of, unreserved_word}
-use Rattle.cedar_names.specs.Names.{internal_of}
+use Rattle.cedar_names.specs.Names.{internal_cmp, internal_of}
 use Rattle.cedar_names.specs.Order.{word_cmp}
 use Rattle.cedar_names.specs.declared.id.UnreservedId.{UnreservedId}
 use Rattle.cedar_names.specs.declared.internal_name.InternalName.{InternalName}
@@ -43,6 +44,10 @@ module _ {N : Type 0} {R : ref_name.Ghosts N} where
   shared_under None n = []
   shared_under (Some path) n = shared_names path n
 
-  -- all full names of named namespaces that are both an entity type and a common type, in order
+  -- all full names of named namespaces that are both an entity type and a common type, namespace by namespace
+  abbrev pub all_shared : Fragment N R → List InternalName
+  all_shared fragment = flat_map (λ e. shared_under e.0 e.1) fragment.0
+
+  -- the same, in their order
   abbrev pub collisions : Fragment N R → List InternalName
-  collisions fragment = flat_map (λ e. shared_under e.0 e.1) fragment.0
+  collisions fragment = set_of internal_cmp (all_shared fragment)

@@ -1,20 +1,54 @@
 // SPDX-License-Identifier: Apache-2.0
 ghost use Rattle.std.specs.Prelude.{◌≡◌, ◌++◌, IfOk, OnOk};
-ghost use Rattle.cedar_fmt.specs.Collisions.{collisions, full_name, has_common, shared_name, shared_names, shared_under};
+ghost use Rattle.cedar_data.specs.Sets.{set_of};
+ghost use Rattle.cedar_fmt.specs.Collisions.{all_shared, collisions, full_name, has_common, shared_name, shared_names, shared_under};
+ghost use Rattle.cedar_names.specs.Names.{internal_cmp};
 
-use cedar_data::{Dup, Items, Mem};
+use cedar_data::{Dup, Items, Mem, Set};
 use cedar_fragment::{Fragment, NamespaceDefinition};
 use cedar_names::{InternalName, Name, UnreservedId};
 use cedar_written::{CommonTypeId, RawName, RefName};
 use std::alloc::Global;
 
 /// All full names of named namespaces that are both an entity type and a common type, in order.
-#[tactic(auto, using(crate::proofs::Gathering::gathers))]
 pub(crate) fn collisions<N: RefName>(
     alloc: Global,
     fragment: &Fragment<N>,
-) -> Mem<Items<InternalName>>
-    ensures { IfOk result (λ names. names ≡ collisions fragment.now) }
+) -> Mem<Vec<InternalName>>
+    ensures { IfOk result (λ names. names.items ≡ collisions fragment.now) }
+{
+    let names = all_shared(alloc, fragment)?;
+    let names = ordered(alloc, names.into_vec())?;
+    listed(alloc, &names)
+}
+
+/// The names in their order, each once.
+fn ordered(alloc: Global, names: Vec<InternalName>) -> Mem<Set<InternalName>>
+    ensures { IfOk result (λ set. set ≡ set_of internal_cmp names.items) }
+{
+    let mut set = Set::new(alloc);
+    for name in names {
+        set.insert(name)?;
+    }
+    Ok(set)
+}
+
+/// The names of a set, in order.
+fn listed(alloc: Global, names: &Set<InternalName>) -> Mem<Vec<InternalName>>
+    ensures { IfOk result (λ list. list.items ≡ names.now) }
+{
+    let mut list = Vec::with_capacity(alloc, names.len())?;
+    for name in names.iter() {
+        let name = name.dup(alloc)?;
+        list.push(name)?;
+    }
+    Ok(list)
+}
+
+/// The same, namespace by namespace.
+#[tactic(auto, using(crate::proofs::Gathering::gathers))]
+fn all_shared<N: RefName>(alloc: Global, fragment: &Fragment<N>) -> Mem<Items<InternalName>>
+    ensures { IfOk result (λ names. names ≡ all_shared fragment.now) }
 {
     let mut names = Items::new(alloc);
     for (path, definition) in fragment.0.iter() {

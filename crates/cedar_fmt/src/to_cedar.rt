@@ -28,7 +28,7 @@ pub fn json_schema_to_cedar_schema_str<N: RefName + Display>(
     ensures refused { IfRefused result (λ error. kept_names error ≡ collisions json_schema.now) }
 {
     let names = collisions(alloc, json_schema)?;
-    match NonEmpty::from_vec(names.into_vec()) {
+    match NonEmpty::from_vec(names) {
         Some(names) => Err(Failure::Refused(ToCedarSchemaSyntaxError::NameCollisions(
             NameCollisionsError { names },
         ))),

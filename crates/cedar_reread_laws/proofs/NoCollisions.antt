@@ -9,7 +9,7 @@ use Rattle.cedar_data.proofs.Exact.{texts_exact}
 use Rattle.cedar_data.specs.Sets.{contains}
 use Rattle.cedar_names.proofs.NameOrder.{words_cmp-equal}
 use Rattle.cedar_names.specs.Identifiers.{unreserved_word}
-use Rattle.cedar_names.specs.Names.{name_words}
+use Rattle.cedar_names.specs.Names.{internal_cmp, name_words}
 use Rattle.cedar_names.specs.Order.{words_cmp}
 use Rattle.cedar_names.specs.declared.id.UnreservedId.{UnreservedId}
 use Rattle.cedar_names.specs.declared.name.Name.{Name}
@@ -24,6 +24,7 @@ use Rattle.cedar_fragment.specs.declared.definitions.CommonType.{CommonType}
 use Rattle.cedar_fragment.specs.declared.definitions.EntityType.{EntityType}
 use Rattle.cedar_fragment.specs.declared.definitions.Fragment as held
 use Rattle.cedar_fragment.specs.declared.definitions.NamespaceDefinition.{NamespaceDefinition}
+use Rattle.cedar_data.specs.Sets.{set_of}
 use Rattle.cedar_fmt.specs.Collisions.{collisions, common_cmp, has_common, shared_name, shared_names, shared_under}
 use Rattle.cedar_convert_fragment.specs.Views.{common_word, commons_seen, entities_seen, fragment_seen, namespaces_seen}
 use Rattle.cedar_fragment_world.specs.FragmentWorlds.{common_at, entity_at, full_name, namespaces_of, world_of_fragment}
@@ -116,4 +117,4 @@ module _ (entities commons : List FullName) (none : (name : FullName) → contai
 pub no_collisions : (F : held.Fragment RawName over_raw) (extensions : List Text) → IsPrintable (fragment_seen F) extensions → collisions F ≡ []
 no_collisions F extensions printable =
     let names = own (world_of_fragment (fragment_seen F) extensions) in
-    all_alone names.entity_types names.common_types (λ name entity common. printable.one_kind name entity common) F.0 (λ name is. is) (λ name is. is)
+    ap (set_of internal_cmp) (all_alone names.entity_types names.common_types (λ name entity common. printable.one_kind name entity common) F.0 (λ name is. is) (λ name is. is))

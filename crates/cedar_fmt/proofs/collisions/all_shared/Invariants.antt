@@ -2,7 +2,7 @@
 use Rattle.std.proofs.Common.{[]}
 use Rattle.cedar_fmt.specs.Collisions.{shared_under}
 use Rattle.cedar_fmt.proofs.Gathering.{Gathers}
-use Rattle.cedar_fmt.proofs.collisions.collisions.Given as goal
+use Rattle.cedar_fmt.proofs.collisions.all_shared.Given as goal
 
 -- the names of the namespaces so far
 abbrev pub invariant-loop-path : goal.invariant-loop-path
