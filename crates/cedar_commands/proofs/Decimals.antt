@@ -59,9 +59,10 @@ module _ (digits front : List ℕ) (last n : ℕ) (small : n < 2 ^ 32) (split : 
 
   -- those with the same one are, where the digits before it are those before it
   same-last : (b : Bool) (begin : List ℕ) → decimal n ≡ begin ++ (48 + n % 10) ∷ [] → last ≡ 48 + n % 10 → IsTrue b ↔ (front ≡ begin) → IsTrue b ↔ (digits ≡ decimal n)
-  same-last b begin is same either =
-      (λ t. split ∙ (λ i. either.0 t i ++ same i ∷ []) ∙ sym is,
-      λ e. either.1 (ends-alike front begin last (48 + n % 10) (sym split ∙ e ∙ is)).0)
+  same-last b begin is same either = (
+    λ t. split ∙ (λ i. either.0 t i ++ same i ∷ []) ∙ sym is,
+    λ e. either.1 (ends-alike front begin last (48 + n % 10) (sym split ∙ e ∙ is)).0,
+  )
 
   pub digits-one : (b : Bool) → n < 10 → last ≡ 48 + n % 10 → IsTrue b ↔ (front ≡ []) → IsTrue b ↔ (digits ≡ decimal n)
   digits-one b few same either = same-last b [] (one-digit n few) same either
