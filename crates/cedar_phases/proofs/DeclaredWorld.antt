@@ -11,7 +11,7 @@ use Rattle.cedar_declared.specs.declared.all_defs.AllDefs.{AllDefs}
 use Rattle.cedar_declared.specs.of_definitions.Structures.{definitions_of}
 use Rattle.cedar_names.specs.Extensions.{extension_words}
 use Rattle.cedar_names.specs.declared.extensions.Extensions.{Extensions}
-use Rattle.cedar_phases.specs.Holding.{Fragment, Holds, world_of}
+use Rattle.cedar_phases.specs.Holding.{Definitions, Holds, world_of}
 use Rattle.cedar_phases.proofs.Agreeing.{same_builtins, shadows_pass, shadows_refuse}
 use Rattle.cedar_qualified.specs.Agreeing.{AgreeingNames}
 use Rattle.cedar_qualified.proofs.AgreedNames.{names_agree}
@@ -23,7 +23,7 @@ use Rattle.cedar_text.proofs.Members.{map-append}
 use Rattle.cedar_qualified.specs.of_world.DefinitionViews.{namespace_in}
 use Rattle.cedar_qualified.specs.of_world.Worlds.{World, all_namespaces, builtin_namespaces, names_in, own}
 
-module _ (fragments : List Fragment) (extensions : Extensions) (own_defs : AllDefs) (gathered : SameNames (names_of own_defs) (declared_names (flat_map definitions_of fragments))) where
+module _ (fragments : List Definitions) (extensions : Extensions) (own_defs : AllDefs) (gathered : SameNames (names_of own_defs) (declared_names (flat_map definitions_of fragments))) where
   abbrev W : World
   W = world_of fragments extensions
 
@@ -38,7 +38,7 @@ module _ (fragments : List Fragment) (extensions : Extensions) (own_defs : AllDe
   shadowing_refuses e = shadows_refuse (names_of own_defs) (own W) own_agree (told e)
 
   -- all definitions, and the names of all
-  pub holds : (builtins all : Fragment) (all_defs : AllDefs) → map namespace_in (definitions_of builtins) ≡ builtin_namespaces (names_of own_defs) (extension_words extensions)
+  pub holds : (builtins all : Definitions) (all_defs : AllDefs) → map namespace_in (definitions_of builtins) ≡ builtin_namespaces (names_of own_defs) (extension_words extensions)
       → definitions_of all ≡ flat_map definitions_of fragments ++ definitions_of builtins → all_defs ≡ with_fragment own_defs builtins → Holds W all_defs (definitions_of all) extensions
   holds builtins all all_defs built joined extended = record {
     names_agree = subst (λ ns. AgreeingNames (names_of all_defs) (names_in ns)) whole (names_agree all_defs (definitions_of all) same);

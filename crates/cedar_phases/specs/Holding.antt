@@ -43,11 +43,11 @@ use Rattle.cedar_written.specs.declared.conditional_name.ConditionalName.{Condit
 abbrev pub Definition : Type 0
 Definition = ValidatorNamespaceDef ConditionalName ConditionalName over_conditional
 
-abbrev pub Fragment : Type 0
-Fragment = ValidatorSchemaFragment ConditionalName ConditionalName over_conditional
+abbrev pub Definitions : Type 0
+Definitions = ValidatorSchemaFragment ConditionalName ConditionalName over_conditional
 
 -- the world of fragments, with these extension types
-abbrev pub world_of : List Fragment → Extensions → World
+abbrev pub world_of : List Definitions → Extensions → World
 world_of fragments extensions = record { namespaces = map namespace_in (flat_map definitions_of fragments); extensions = extension_words extensions }
 
 -- all names and all definitions of a world, and the words of its extension types

@@ -9,7 +9,7 @@ ghost use Rattle.cedar_phases.specs.Holding.{AllPassed, Holds, OneRefuses, early
 ghost use Rattle.cedar_schema_error.specs.Told.{told};
 ghost use Rattle.cedar_qualified.specs.of_world.Worlds.{World};
 
-use crate::declaring::Fragment;
+use crate::declaring::Definitions;
 use cedar_data::{Failure, Out};
 use cedar_declared::AllDefs;
 use cedar_qualified::HasReferences;
@@ -19,7 +19,7 @@ use std::alloc::Global;
 
 /// Refused with the references of definitions that mean nothing declared; where there are none, with the first name
 /// with `__cedar` that a parent, a principal or a resource means.
-fn refuse_missing(alloc: Global, all_defs: &AllDefs, definitions: &Fragment) -> Out<(), SchemaError>
+fn refuse_missing(alloc: Global, all_defs: &AllDefs, definitions: &Definitions) -> Out<(), SchemaError>
     ensures nothing { IfOk result
         (λ _. refusal_of
         (missing_in_each (missing_in_definition (names_of all_defs.now))
@@ -41,7 +41,7 @@ fn refuse_missing(alloc: Global, all_defs: &AllDefs, definitions: &Fragment) -> 
 pub(crate) fn check_definitions(
     alloc: Global,
     all_defs: &AllDefs,
-    definitions: &Fragment,
+    definitions: &Definitions,
 ) -> Out<(), SchemaError>
     ensures passes { IfOk result (λ _. (W : World) (X : Extensions)
         → Holds W all_defs.now (definitions_of definitions.now) X → AllPassed W early_phases) }

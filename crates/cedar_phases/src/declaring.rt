@@ -23,7 +23,7 @@ use std::alloc::Global;
 pub(crate) type Definition = ValidatorNamespaceDef<ConditionalName, ConditionalName>;
 
 /// Definitions of namespaces.
-pub(crate) type Fragment = ValidatorSchemaFragment<ConditionalName, ConditionalName>;
+pub(crate) type Definitions = ValidatorSchemaFragment<ConditionalName, ConditionalName>;
 
 /// All definitions, and the names that they declare.
 #[derive(Drop)]
@@ -31,7 +31,7 @@ pub(crate) struct Declarations {
     /// The declared names.
     pub all_defs: AllDefs,
     /// The definitions, those of the builtin types and of their aliases last.
-    pub definitions: Fragment,
+    pub definitions: Definitions,
 }
 
 /// Puts more items behind the others.
@@ -46,7 +46,7 @@ fn push_all<T: Drop>(items: &mut Vec<T>, more: Vec<T>) -> Mem<()>
 
 /// The definitions of all fragments, in order.
 #[tactic(auto, using(cedar_outlines::proofs::Appended::appended))]
-fn all_definitions(alloc: Global, fragments: Vec<Fragment>) -> Mem<Vec<Definition>>
+fn all_definitions(alloc: Global, fragments: Vec<Definitions>) -> Mem<Vec<Definition>>
     ensures { IfOk result (λ all. all.items ≡ flat_map definitions_of fragments.items) }
 {
     let mut all = Vec::new(alloc);
@@ -57,7 +57,7 @@ fn all_definitions(alloc: Global, fragments: Vec<Fragment>) -> Mem<Vec<Definitio
 }
 
 /// The definitions of all fragments, and then these.
-fn join(alloc: Global, fragments: Vec<Fragment>, last: Fragment) -> Mem<Fragment>
+fn join(alloc: Global, fragments: Vec<Definitions>, last: Definitions) -> Mem<Definitions>
     ensures { IfOk result (λ f. definitions_of f ≡ flat_map definitions_of fragments.items
         ++ definitions_of last) }
 {
@@ -70,7 +70,7 @@ fn join(alloc: Global, fragments: Vec<Fragment>, last: Fragment) -> Mem<Fragment
 fn declare_all(
     alloc: Global,
     own: AllDefs,
-    fragments: Vec<Fragment>,
+    fragments: Vec<Definitions>,
     extensions: &Extensions,
 ) -> Mem<Declarations>
     requires { SameNames (names_of own)
@@ -94,7 +94,7 @@ fn declare_all(
 fn declare_with(
     alloc: Global,
     own: AllDefs,
-    fragments: Vec<Fragment>,
+    fragments: Vec<Definitions>,
     extensions: &Extensions,
 ) -> Out<Declarations, SchemaError>
     requires { SameNames (names_of own)
@@ -122,7 +122,7 @@ fn declare_with(
 /// declare shadows another.
 pub(crate) fn declare(
     alloc: Global,
-    fragments: Vec<Fragment>,
+    fragments: Vec<Definitions>,
     extensions: &Extensions,
 ) -> Out<Declarations, SchemaError>
     ensures passes { IfOk result

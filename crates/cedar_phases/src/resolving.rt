@@ -13,7 +13,7 @@ ghost use Rattle.cedar_qualified.specs.of_world.Worlds.{World};
 
 use crate::assembling::assemble;
 use crate::checking::check_definitions;
-use crate::declaring::{Declarations, Fragment, declare};
+use crate::declaring::{Declarations, Definitions, declare};
 use crate::unfolding::unfolded_types;
 use cedar_data::Out;
 use cedar_declared::{AllDefs, ValidatorSchemaFragment};
@@ -74,7 +74,7 @@ fn resolve_tables(
 fn resolve_checked(
     alloc: Global,
     all_defs: &AllDefs,
-    definitions: Fragment,
+    definitions: Definitions,
     extensions: &Extensions,
 ) -> Out<ValidatorSchema, SchemaError>
     ensures passes { IfOk result (λ _. (W : World)
