@@ -4,6 +4,7 @@
 #![tactic(auto)]
 
 pub use cedar_complete::FullyQualifyDefinitions;
+pub use cedar_data::Near;
 pub use cedar_declared::{AllDefs, FullyQualify, ResolveName};
 pub use cedar_definitions::{
     ActionFragment, ActionNameIter, ActionsDef, CommonNameIter, CommonTypeDefs, EntityNameIter,
