@@ -5,6 +5,7 @@ pub mod of_json
 pub mod of_fragment_world
 pub mod of_convert_text
 pub use Rattle.cedar_schema.specs.Fragments
+pub use Rattle.cedar_schema.specs.Places
 pub use Rattle.cedar_schema.specs.Texts
 pub use Rattle.cedar_schema.specs.SchemaViews
 pub mod JsonSchemas
