@@ -2,6 +2,7 @@
 pub mod of_sound
 pub use Rattle.cedar_sound.proofs.Refusing
 pub use Rattle.cedar_sound.proofs.OneSchema
+pub use Rattle.cedar_sound.proofs.SomeSchema
 pub mod Agreeing
 pub mod Assembled
 pub mod Carried

@@ -19,7 +19,11 @@ use std::alloc::Global;
 
 /// Refused with the references of definitions that mean nothing declared; where there are none, with the first name
 /// with `__cedar` that a parent, a principal or a resource means.
-fn refuse_missing(alloc: Global, all_defs: &AllDefs, definitions: &Definitions) -> Out<(), SchemaError>
+fn refuse_missing(
+    alloc: Global,
+    all_defs: &AllDefs,
+    definitions: &Definitions,
+) -> Out<(), SchemaError>
     ensures nothing { IfOk result
         (λ _. refusal_of
         (missing_in_each (missing_in_definition (names_of all_defs.now))

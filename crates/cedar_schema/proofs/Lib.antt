@@ -1,5 +1,6 @@
 -- SPDX-License-Identifier: Apache-2.0
 pub use Rattle.cedar_phases.proofs.OneSchema
+pub use Rattle.cedar_phases.proofs.SomeSchema
 pub use Rattle.cedar_phases.proofs.Placing
 pub mod Declaring
 pub mod Refusing

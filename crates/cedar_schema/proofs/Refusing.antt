@@ -28,6 +28,7 @@ use Rattle.cedar_schema_error.specs.declared.action_behavior.ActionBehavior.TheV
 use Rattle.cedar_schema_errors.specs.declared.schema_error.CedarSchemaError.{CedarSchemaError}
 use Rattle.cedar_schema_errors.specs.declared.schema_error.CedarSchemaError.TheVariants.{Parsing, Schema}
 use Rattle.cedar_phases.proofs.OneSchema.{one_schema}
+use Rattle.cedar_phases.proofs.SomeSchema.{sound_denotes}
 use Rattle.cedar_phases.proofs.Refusing.{one_cause, sound_or_refused}
 use Rattle.cedar_fragment_world.specs.of_world.Denotes.{Denotes}
 use Rattle.cedar_fragment_world.specs.of_world.Schemas as schemas
@@ -100,3 +101,9 @@ pub one_schema_of_text : (text : List ℕ) (extensions : List (List ℕ)) (S T :
 one_schema_of_text text extensions S T ss ts p q =
     let same = one_declared text extensions p.fragment q.fragment ss ts p.well_formed.declares q.well_formed.declares in
     (one_schema (world_of_fragment q.fragment extensions) S T (subst (λ F. Denotes (world_of_fragment F extensions) S) same.0 p.denotes) q.denotes, same.1)
+
+-- a well formed text denotes a schema
+pub some_schema_of_text : (text : List ℕ) (extensions : List (List ℕ)) (F : Fragment) (warned : List SchemaWarning) → IsWellFormed text extensions F warned → (S : schemas.Schema) × DenotesSchema text extensions S warned
+some_schema_of_text text extensions F warned well =
+    let some = sound_denotes (world_of_fragment F extensions) well.sound.sound in
+    (some.0, record { fragment = F; well_formed = well; denotes = some.1 })

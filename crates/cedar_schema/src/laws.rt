@@ -61,3 +61,11 @@ pub fn one_schema_of_text()
         → (ss ts : List SchemaWarning) → DenotesSchema text extensions S ss
         → DenotesSchema text extensions T ts → (S ≡ T) × (ss ≡ ts) }
 {}
+
+/// A law: a well formed text denotes a schema, with the warnings with which it declares its fragment. It does nothing
+/// when it runs.
+pub fn some_schema_of_text()
+    ensures { (text : List ℕ) (extensions : List (List ℕ)) (F : Fragment)
+        → (warned : List SchemaWarning) → IsWellFormed text extensions F warned
+        → (S : Schema) × DenotesSchema text extensions S warned }
+{}

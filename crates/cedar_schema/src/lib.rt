@@ -16,6 +16,6 @@ pub use cedar_schema_errors::CedarSchemaError;
 pub use fragments::FromFragment;
 pub use laws::{
     declared_or_not, one_declared, one_fragment_cause, one_schema_of_text, one_text_cause,
-    sound_fragment_or_refused, well_formed_or_refused,
+    some_schema_of_text, sound_fragment_or_refused, well_formed_or_refused,
 };
 pub use texts::{FragmentText, FromCedarSchema};

@@ -20,6 +20,7 @@ use Rattle.cedar_schema_error.specs.declared.schema_error.SchemaError.{SchemaErr
 use Rattle.cedar_schema_error.specs.declared.schema_error.SchemaError.TheVariants.{JsonDeserialization}
 use Rattle.cedar_schema_json.specs.JsonSchemas.{DenotesSchema, IsWellFormed, JsonCause, unread}
 use Rattle.cedar_schema.proofs.OneSchema.{one_schema}
+use Rattle.cedar_schema.proofs.SomeSchema.{sound_denotes}
 use Rattle.cedar_schema.specs.of_world.Denotes.{Denotes}
 use Rattle.cedar_schema.specs.of_world.Schemas.{Schema}
 use Rattle.cedar_written.specs.declared.raw_name.RawName.{RawName}
@@ -83,3 +84,9 @@ module _ (Shapes : Fragment RawName over_raw → Type 0) (fault : Fault) (extens
         → (F : Fragment RawName over_raw) → IsWellFormed Shapes extensions F → Accepts {T = M} Accepted (Err made)
     accepts_unread N M Accepted (Refused e) made is first F well = none_at_fault F e well.shape first
     accepts_unread N M Accepted NoMemory made is first F well = subst (λ x. Accepts {T = M} Accepted (Err x)) (sym is) tt
+
+-- what is well formed denotes a schema
+pub some_schema : (Shapes : Fragment RawName over_raw → Type 0) (extensions : List (List ℕ)) (F : Fragment RawName over_raw) → IsWellFormed Shapes extensions F → (S : Schema) × DenotesSchema Shapes extensions S
+some_schema Shapes extensions F well =
+    let some = sound_denotes (world_of_fragment (fragment_seen F) extensions) well.sound.sound in
+    (some.0, record { fragment = F; well_formed = well; denotes = some.1 })

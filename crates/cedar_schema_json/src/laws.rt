@@ -42,3 +42,13 @@ pub fn one_json_schema()
         → DenotesSchema (IsFragmentText text) extensions S
         → DenotesSchema (IsFragmentText text) extensions T → S ≡ T }
 {}
+
+/// A law: a value or a text that is well formed as a schema in JSON denotes a schema. It does nothing when it runs.
+pub fn some_json_schema()
+    ensures value { (d : Data) (extensions : List (List ℕ)) (F : Fragment RawName over_raw)
+        → IsWellFormed (IsFragment d) extensions F
+        → (S : Schema) × DenotesSchema (IsFragment d) extensions S }
+    ensures text { (text : List ℕ) (extensions : List (List ℕ)) (F : Fragment RawName over_raw)
+        → IsWellFormed (IsFragmentText text) extensions F
+        → (S : Schema) × DenotesSchema (IsFragmentText text) extensions S }
+{}

@@ -7,5 +7,5 @@ mod schemas;
 
 pub use cedar_json::FragmentJson;
 pub use cedar_schema::{CedarSchemaError, FragmentText, FromCedarSchema};
-pub use laws::{one_json_cause, one_json_schema, well_formed_json_or_refused};
+pub use laws::{one_json_cause, one_json_schema, some_json_schema, well_formed_json_or_refused};
 pub use schemas::SchemaJson;

@@ -1,7 +1,7 @@
 -- SPDX-License-Identifier: Apache-2.0
 -- A job can be done or is refused, not both, and is refused in one way at most.
-use Rattle.std.specs.Prelude.{◌≡◌, ◌≤◌, ◌<◌, List, [], ◌∷◌}
-use Rattle.std.proofs.Common.{arith, refl, inl, inr, sym, ap, ◌∙◌, subst}
+use Rattle.std.specs.Prelude.{◌≡◌, ◌≤◌, ◌<◌, []}
+use Rattle.std.proofs.Common.{arith, inl, inr, sym, ap, ◌∙◌, subst}
 use Rattle.cedar_data.specs.Firsts.{IsFirst}
 use Rattle.cedar_data.proofs.Judging.{Judges, apart_of_list, none_first, one_first, one_least, one_of_list}
 use Rattle.cedar_duplicates.specs.of_schema_error.FullNames.{FullName}

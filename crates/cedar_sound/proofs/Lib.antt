@@ -6,3 +6,6 @@ pub mod OneSchema
 pub mod Refusing
 pub mod SortedMaps
 pub mod UsesFound
+pub mod Chains
+pub mod Descendants
+pub mod SomeSchema

@@ -1,6 +1,6 @@
 -- SPDX-License-Identifier: Apache-2.0
 -- Where namespaces miss nothing, none of their types does; and where they mean no name with `__cedar`, no action does.
-use Rattle.std.proofs.Common.{◌≡◌, ◌++◌, Bool, true, false, cond, List, [], ◌∷◌, fold, map, Some, None, refl, sym, ap, ◌∙◌, subst}
+use Rattle.std.proofs.Common.{◌≡◌, ◌++◌, Bool, true, false, cond, List, [], ◌∷◌, fold, map, refl, ap, ◌∙◌}
 use Rattle.std.specs.BTreeMap.{insert_entry}
 use Rattle.std.specs.List.{filter, flat_map}
 use Rattle.std.specs.Ordering.{match_ordering}
@@ -14,9 +14,9 @@ use Rattle.cedar_duplicates.specs.of_schema_error.FullNames.{FullName, Uid}
 use Rattle.cedar_duplicates.specs.of_schema_error.NameReferences.{ActionReference, NameReference}
 use Rattle.cedar_duplicates.specs.of_schema_error.Refusals.{Context, Shape, Tags, UsePlace}
 use Rattle.cedar_world.specs.of_unfold.Written.{Written}
-use Rattle.cedar_world.specs.Definitions.{ActionDefinition, EntityDefinition, Enumerated, Namespace, Standard, parents_of, shape_of, tags_of}
+use Rattle.cedar_world.specs.Definitions.{ActionDefinition, EntityDefinition, Namespace, parents_of, shape_of, tags_of}
 use Rattle.cedar_world.specs.Missing.{action_memberships, entity_memberships, memberships, missing_in, missing_in_action, missing_in_entity, missing_in_namespace, missing_types, or_else, parent_types, reserved_targets}
-use Rattle.cedar_world.specs.Worlds.{actions_in, common_types_in, entity_types_in, uses_by, uses_in}
+use Rattle.cedar_world.specs.Worlds.{actions_in, common_types_in, entity_types_in, uses_in}
 
 empty_left : {A : Type 0} (xs ys : List A) → xs ++ ys ≡ [] → xs ≡ []
 empty_left [] ys e = refl

@@ -10,8 +10,6 @@ use Rattle.cedar_names.specs.Order.{words_cmp}
 use Rattle.cedar_duplicates.specs.of_schema_error.FullNames.{FullName, Uid}
 use Rattle.cedar_duplicates.specs.of_schema_error.NameReferences.{ActionReference, NameReference}
 use Rattle.cedar_sound.proofs.NameOrders.{names_exact, uids_exact}
-use Rattle.cedar_types.specs.declared.ty.Attributes.{Attributes}
-use Rattle.cedar_types.specs.declared.value.ValueMap.{ValueMap}
 use Rattle.cedar_world.specs.of_unfold.Resolved.{Resolved, ResolvedAttributes}
 use Rattle.cedar_world.specs.of_unfold.Resolved as resolved
 use Rattle.cedar_world.specs.of_unfold.Written.{Written}

@@ -1,11 +1,11 @@
 -- SPDX-License-Identifier: Apache-2.0
 -- The uses of an entity type and of an action, found by their places.
-use Rattle.std.proofs.Common.{◌≡◌, ◌++◌, Bool, true, false, cond, List, [], ◌∷◌, Option, Some, None, map, refl, sym, ap, ◌∙◌}
+use Rattle.std.proofs.Common.{◌≡◌, ◌++◌, Bool, true, false, cond, List, [], ◌∷◌, Some, None, map, refl, ap, ◌∙◌}
 use Rattle.std.specs.BTreeMap.{is_at}
 use Rattle.std.specs.Cmp.{IsTotalOrder}
 use Rattle.std.specs.List.{AllByRecursion, flat_map}
 use Rattle.std.specs.List.Sorted.{IsStrictlySortedBy}
-use Rattle.std.specs.Map.{keys_of, lookup}
+use Rattle.std.specs.Map.{keys_of}
 use Rattle.std.specs.Ordering.{is_eq}
 use Rattle.std.specs.declared.cmp.Ordering.{Ordering}
 use Rattle.std.specs.declared.cmp.Ordering.TheVariants.{Less, Equal, Greater}
@@ -18,7 +18,7 @@ use Rattle.cedar_duplicates.specs.of_schema_error.FullNames.{FullName, Uid, uid_
 use Rattle.cedar_duplicates.specs.of_schema_error.NameReferences.{ActionReference, NameReference}
 use Rattle.cedar_duplicates.specs.of_schema_error.Refusals.{Context, Shape, Tags, UsePlace}
 use Rattle.cedar_world.specs.of_unfold.Written.{Written}
-use Rattle.cedar_world.specs.Definitions.{ActionDefinition, EntityDefinition, Enumerated, Standard, shape_of, tags_of}
+use Rattle.cedar_world.specs.Definitions.{ActionDefinition, EntityDefinition, shape_of, tags_of}
 use Rattle.cedar_world.specs.Worlds.{uses_by}
 
 from_eq : (o : Ordering) → is_eq o ≡ true → o ≡ Equal

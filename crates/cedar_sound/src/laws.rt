@@ -23,3 +23,9 @@ pub fn one_cause()
 pub fn one_schema()
     ensures { (W : World) (S T : Schema) → Denotes W S → Denotes W T → S ≡ T }
 {}
+
+/// A law: a sound world denotes a schema. It does nothing when it runs.
+#[tactic(auto, using(crate::proofs::SomeSchema::sound_denotes))]
+pub fn some_schema()
+    ensures { (W : World) → Sound W → (S : Schema) × Denotes W S }
+{}

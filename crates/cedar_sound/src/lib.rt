@@ -6,4 +6,4 @@ mod laws;
 
 pub use cedar_duplicates::refuse_duplicates;
 pub use cedar_shadowing::ShadowingChecks;
-pub use laws::{one_cause, one_schema, sound_or_refused};
+pub use laws::{one_cause, one_schema, some_schema, sound_or_refused};
