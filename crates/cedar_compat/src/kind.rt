@@ -15,7 +15,7 @@ use std::fmt::Display;
 pub enum CompatKind {
     /// The entity type isn't there any more.
     TypeRemoved,
-    /// The entity type had attributes, and lists its entities now.
+    /// The entity type didn't list its entities, and lists them now.
     BecameEnumerated,
     /// The entity type doesn't list the entity of this id any more.
     ChoiceRemoved { id: Text },
