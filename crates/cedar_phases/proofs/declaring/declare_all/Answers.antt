@@ -9,8 +9,8 @@ use Rattle.cedar_phases.proofs.declaring.declare_all.Goals as goal
 
 pub returns-clause-holds : goal.returns-clause-holds
 returns-clause-holds c = holds c.args.fragments.items c.args.extensions.now c.args.own c.requires c.in_ok-builtins.builtins c.in_ok-definitions.definitions c.in_ok-all_defs.all_defs
-    c.in_ok-builtins.ensures c.in_ok-definitions.ensures c.in_ok-all_defs.ensures
+    c.in_ok-builtins.ensures.definitions c.in_ok-definitions.ensures c.in_ok-all_defs.ensures
 
 pub returns-clause-places : goal.returns-clause-places
 returns-clause-places c = builtins_add_none (names_of c.args.own) (extension_words c.args.extensions.now) (flat_map definitions_of c.args.fragments.items) (definitions_of c.in_ok-builtins.builtins)
-    (definitions_of c.in_ok-definitions.definitions) c.in_ok-builtins.ensures c.in_ok-definitions.ensures
+    (definitions_of c.in_ok-definitions.definitions) c.in_ok-builtins.ensures.definitions c.in_ok-definitions.ensures
