@@ -3,6 +3,7 @@ pub mod Said
 pub mod Beside
 pub mod Actions
 pub mod Places
+pub mod Counting
 pub mod RequestLoops
 pub mod Elements
 pub mod Numbering

@@ -7,3 +7,4 @@ pub mod PartViews
 pub mod RequestChecks
 pub mod RequestFlaws
 pub mod Requests
+pub mod Counts

@@ -1,38 +1,46 @@
 // SPDX-License-Identifier: Apache-2.0
-ghost use Rattle.std.specs.Prelude.{◌≡◌, Ok};
+ghost use Rattle.std.specs.Prelude.{◌≡◌, map, Ok, IfOk};
 ghost use Rattle.cedar_written.specs.Answers.{and_then};
-ghost use Rattle.cedar_conform.specs.of_checks.SchemaViews.{action_of, schema_in};
+ghost use Rattle.cedar_conform.specs.of_checks.SchemaViews.{action_in, action_of, schema_in};
 ghost use Rattle.cedar_schema_error.specs.FullNames.{uid_in};
 ghost use Rattle.cedar_names.specs.Names.{entity_words};
 ghost use Rattle.cedar_conform.specs.Checks.{Tells, passed};
 ghost use Rattle.cedar_conform.specs.ValueChecks.{known_check};
+ghost use Rattle.cedar_resolved.specs.Schemas.{action_types};
+ghost use Rattle.cedar_request.specs.Counts.{AreCounted};
+ghost use Rattle.cedar_request.specs.Numbers.{size_before};
 ghost use Rattle.cedar_request.specs.PartViews.{parts_in};
 ghost use Rattle.cedar_request.specs.RequestChecks.{Says, action_check, context_check, entity_known, environment_check, principal_check, resource_check, type_check};
 ghost use Rattle.cedar_request.specs.RequestFlaws.{no_principal, no_resource};
+ghost use Rattle.cedar_request.specs.Requests.{in_64_bits};
 
-use crate::environments::number_of;
+use crate::environments::{Counted, number_of};
 use crate::fault::RequestFault;
 use crate::parts::Parts;
 use crate::refusing::{of_value, refuse};
 use cedar_conform::{Fault, conforms_value, known, under, under_place};
-use cedar_data::{Dup, Out, dup_two};
+use cedar_data::{Dup, Map, Out, dup_two};
 use cedar_names::{EntityType, EntityUID};
 use cedar_resolved::{ValidatorActionId, ValidatorSchema};
 use std::alloc::Global;
 
-/// The action of this name in the schema.
-#[tactic(auto, using(crate::proofs::Actions::actions))]
+/// The action of this name, among those of the schema.
+#[tactic(auto, using(crate::proofs::Counting::named, crate::proofs::Actions::actions))]
 fn action_named<'a>(
     alloc: Global,
-    schema: &'a ValidatorSchema,
+    schema: &ValidatorSchema,
+    counted: &Map<EntityUID, Counted<'a>>,
     place: usize,
     uid: &EntityUID,
-) -> Out<&'a ValidatorActionId, RequestFault>
-    ensures { Says (λ action. action_of action.now) result
+) -> Out<Counted<'a>, RequestFault>
+    requires { AreCounted schema.now counted.now }
+    ensures action { Says (λ found. action_of found.action.now) result
         (action_check (schema_in schema.now) place (uid_in uid.now)) }
+    ensures before { IfOk result (λ found. found.before
+        ≡ in_64_bits (size_before (map action_in (action_types schema.now)) (uid_in uid.now))) }
 {
-    match schema.get_action_id(uid) {
-        Some(action) => Ok(action),
+    match counted.get(uid) {
+        Some(found) => Ok(*found),
         None => {
             let uid = uid.dup(alloc)?;
             refuse(RequestFault::UnknownAction {
@@ -172,22 +180,24 @@ fn check_context(
     of_value(under_place(alloc, place, under(alloc, "context", checked)))
 }
 
-/// The number of the environment in which the request is, in 64 bits.
-#[tactic(auto, using(crate::proofs::Said::said), unfolding(crate::specs::RequestChecks::environment_check))]
+/// The number of the environment in which the request is, in 64 bits: `counted` has the actions of the schema.
+#[tactic(auto, using(crate::proofs::Said::said, crate::proofs::Counting::numbers), unfolding(crate::specs::RequestChecks::environment_check))]
 pub(crate) fn enter(
     alloc: Global,
     schema: &ValidatorSchema,
+    counted: &Map<EntityUID, Counted<'_>>,
     place: usize,
     parts: &Parts<'_>,
 ) -> Out<u64, RequestFault>
+    requires { AreCounted schema.now counted.now }
     ensures { Says (λ n. n) result
         (environment_check (schema_in schema.now) place (parts_in parts.now)) }
 {
-    let found = action_named(alloc, schema, place, &parts.action)?;
-    check_principal(alloc, schema, place, parts, found)?;
-    check_resource(alloc, schema, place, parts, found)?;
-    check_context(alloc, schema, place, parts, found)?;
+    let found = action_named(alloc, schema, counted, place, &parts.action)?;
+    check_principal(alloc, schema, place, parts, found.action)?;
+    check_resource(alloc, schema, place, parts, found.action)?;
+    check_context(alloc, schema, place, parts, found.action)?;
     let principal = parts.principal.entity_type();
     let resource = parts.resource.entity_type();
-    Ok(number_of(schema, &parts.action, found, principal, resource))
+    Ok(number_of(found, principal, resource))
 }

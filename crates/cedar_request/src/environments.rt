@@ -1,15 +1,16 @@
 // SPDX-License-Identifier: Apache-2.0
-ghost use Rattle.std.specs.Prelude.{◌≡◌, map};
+ghost use Rattle.std.specs.Prelude.{◌≡◌, ◌+◌, map, IfOk};
 ghost use Rattle.cedar_names.specs.Names.{entity_words};
-ghost use Rattle.cedar_resolved.specs.Schemas.{action_types};
-ghost use Rattle.cedar_schema_error.specs.FullNames.{uid_in};
-ghost use Rattle.cedar_conform.specs.of_checks.SchemaViews.{action_in, action_of, schema_in};
+ghost use Rattle.cedar_conform.specs.of_checks.SchemaViews.{action_of};
+ghost use Rattle.cedar_request.specs.Counts.{AreCounted};
 ghost use Rattle.cedar_request.specs.Numbers as numbers;
-ghost use Rattle.cedar_request.specs.Numbers.{number, place_in, size_before, size_of};
+ghost use Rattle.cedar_request.specs.Numbers.{place_in, size_of};
 ghost use Rattle.cedar_request.specs.Requests.{in_64_bits};
 
+use cedar_data::{Dup, Map, Mem};
 use cedar_names::{EntityType, EntityUID};
 use cedar_resolved::{SetIter, ValidatorActionId, ValidatorSchema};
+use std::alloc::Global;
 
 /// How many of the types stand before this one.
 #[tactic(auto, using(crate::proofs::Places::places))]
@@ -36,24 +37,32 @@ fn count_of(action: &ValidatorActionId) -> u64
     principals.saturating_mul(resources)
 }
 
-/// How many environments the actions of the schema before this one have, or the greatest `u64`.
-#[tactic(auto, using(crate::proofs::Places::counts))]
-fn count_before(schema: &ValidatorSchema, action: &EntityUID) -> u64
-    ensures { result ≡ in_64_bits
-        (size_before (map action_in (action_types schema.now)) (uid_in action.now)) }
+/// An action of a schema, and how many environments stand before its own, or the greatest `u64`.
+#[derive(Clone, Copy)]
+pub(crate) struct Counted<'a> {
+    /// The action.
+    pub(crate) action: &'a ValidatorActionId,
+    /// How many environments the actions before it have.
+    pub(crate) before: u64,
+}
+
+/// Each action of the schema by its name, with how many environments stand before its own. It fails only for want of
+/// memory.
+#[tactic(auto, using(crate::proofs::Counting::counts))]
+pub(crate) fn counted_actions<'a>(
+    alloc: Global,
+    schema: &'a ValidatorSchema,
+) -> Mem<Map<EntityUID, Counted<'a>>>
+    ensures { IfOk result (AreCounted schema.now) }
 {
-    let mut count = 0u64;
-    let mut actions = schema.action_ids();
-    for name in schema.actions() {
-        let Some(found) = actions.next() else {
-            return count;
-        };
-        if action.cmp(name).is_eq() {
-            return count;
-        }
-        count = count.saturating_add(count_of(found));
+    let mut counted = Map::with_room(alloc, schema.by_action().len())?;
+    let mut before = 0u64;
+    for (name, action) in schema.by_action().iter() {
+        let name = name.dup(alloc)?;
+        counted.push_last(name, Counted { action, before })?;
+        before = before.saturating_add(count_of(action));
     }
-    count
+    Ok(counted)
 }
 
 /// How many environments of the action stand before the one of these types, or the greatest `u64`.
@@ -67,17 +76,12 @@ fn place_of(action: &ValidatorActionId, principal: &EntityType, resource: &Entit
     row.saturating_mul(width).saturating_add(column)
 }
 
-/// The number of the environment of these, counted from 0, or the greatest `u64`: `found` is what the schema has under
-/// the action's name.
-pub(crate) fn number_of(
-    schema: &ValidatorSchema,
-    action: &EntityUID,
-    found: &ValidatorActionId,
-    principal: &EntityType,
-    resource: &EntityType,
-) -> u64
-    ensures { result ≡ in_64_bits (number (schema_in schema.now) (uid_in action.now)
-        (action_of found.now) (entity_words principal.now) (entity_words resource.now)) }
+/// The number of the environment of these, counted from 0, or the greatest `u64`.
+pub(crate) fn number_of(found: Counted<'_>, principal: &EntityType, resource: &EntityType) -> u64
+    ensures { result ≡ in_64_bits (found.entry.before + in_64_bits (place_in
+        (action_of found.entry.action.now) (entity_words principal.now) (entity_words resource.now))) }
 {
-    count_before(schema, action).saturating_add(place_of(found, principal, resource))
+    found
+        .before
+        .saturating_add(place_of(found.action, principal, resource))
 }

@@ -4,31 +4,36 @@ ghost use Rattle.serde_json.specs.View.{view, items_view};
 ghost use Rattle.cedar_text.specs.Failures.{IfRefused};
 ghost use Rattle.cedar_conform.specs.of_checks.SchemaViews.{schema_in};
 ghost use Rattle.cedar_conform.specs.Checks.{Tells, in_array};
+ghost use Rattle.cedar_request.specs.Counts.{AreCounted};
 ghost use Rattle.cedar_request.specs.RequestChecks.{Says, each_request, of_value, request_check, requests_check};
 ghost use Rattle.cedar_request.specs.Requests.{AreRequests};
 
 use crate::entering::enter;
+use crate::environments::{Counted, counted_actions};
 use crate::fault::RequestFault;
 use crate::parts::read_parts;
 use crate::refusing::of_value;
 use cedar_conform::{Fault, JsonKind, under_place, wrong_kind};
-use cedar_data::Out;
+use cedar_data::{Map, Out};
+use cedar_names::EntityUID;
 use cedar_resolved::{ValidatorSchema, environments_once};
 use serde_json::Value;
 use std::alloc::Global;
 
-/// The number of the environment in which the value is a request, in 64 bits.
+/// The number of the environment in which the value is a request, in 64 bits: `counted` has the actions of the schema.
 #[tactic(auto, using(crate::proofs::Said::said), unfolding(crate::specs::RequestChecks::request_check))]
 fn check_request(
     alloc: Global,
     schema: &ValidatorSchema,
+    counted: &Map<EntityUID, Counted<'_>>,
     place: usize,
     value: &Value,
 ) -> Out<u64, RequestFault>
+    requires { AreCounted schema.now counted.now }
     ensures { Says (λ n. n) result (request_check (schema_in schema.now) place (view value.now)) }
 {
     let parts = of_value(under_place(alloc, place, read_parts(alloc, value)))?;
-    enter(alloc, schema, place, &parts)
+    enter(alloc, schema, counted, place, &parts)
 }
 
 /// The numbers of the environments in which the items are requests, in 64 bits.
@@ -36,15 +41,17 @@ fn check_request(
 fn check_items(
     alloc: Global,
     schema: &ValidatorSchema,
+    counted: &Map<EntityUID, Counted<'_>>,
     items: &Vec<Value>,
 ) -> Out<Vec<u64>, RequestFault>
+    requires { AreCounted schema.now counted.now }
     ensures { Says (λ numbers. numbers.items) result
         (each_request (schema_in schema.now) 0 (items_view items.now.items)) }
 {
     let mut numbers = Vec::with_capacity(alloc, items.len())?;
     let mut place = 0usize;
     for item in items {
-        let number = check_request(alloc, schema, place, item)?;
+        let number = check_request(alloc, schema, counted, place, item)?;
         numbers.push(number)?;
         place += 1;
     }
@@ -68,7 +75,8 @@ fn check_list(alloc: Global, schema: &ValidatorSchema, value: &Value) -> Out<Vec
         (requests_check (schema_in schema.now) (view value.now)) }
 {
     let items = of_value(items_of(alloc, value))?;
-    check_items(alloc, schema, items)
+    let counted = counted_actions(alloc, schema)?;
+    check_items(alloc, schema, &counted, items)
 }
 
 /// For a value in JSON that is an array of requests, the number of the request environment of each, counted from 0 in
