@@ -25,7 +25,7 @@ use Rattle.cedar_fragment_world.proofs.EntitiesSeen.{entity_alike}
 use Rattle.cedar_fragment_world.proofs.NamesSeen.{words_of}
 use Rattle.cedar_fragment_world.proofs.TypesSeen.{type_alike}
 use Rattle.cedar_fragment_world.specs.of_namespace_definitions.Definitions.{AreDefinitionsOf, IsDefinitionOf, action_in, common_in, entity_in}
-use Rattle.cedar_phases.specs.Holding.{Definition, Fragment, world_of}
+use Rattle.cedar_phases.specs.Holding.{Definition, Definitions, world_of}
 use Rattle.cedar_sound.proofs.NothingMissed.{pass_flat, pass_map, pass_unmap, pass_weaker}
 use Rattle.cedar_sound.specs.Sound.{Cause}
 use Rattle.cedar_schema_error.specs.FullNames.{Uid}
@@ -106,7 +106,7 @@ definitions_free ds = record {
       (pass_each_item (λ d. AllPass (λ (uid : Uid). IsFree uid.ty) (keys_of (namespace_in d).actions)) actions_free ds));
 }
 
-module _ (fs : List Fragment) (X : Extensions) (e : Refusal) where
+module _ (fs : List Definitions) (X : Extensions) (e : Refusal) where
   -- where definitions have the kinds of their places, no cause is one of wrong kinds
   pub definitions_ruled_out : HaveTheirKinds (world_of fs X).namespaces → Cause (world_of fs X) e → never_comes e ≡ false
   definitions_ruled_out kinds = ruled_out (world_of fs X) kinds (definitions_free (flat_map definitions_of fs)) e

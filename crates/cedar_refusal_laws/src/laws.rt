@@ -11,7 +11,7 @@ ghost use Rattle.cedar_names.specs.declared.extensions.Extensions.{Extensions};
 ghost use Rattle.cedar_names.specs.declared.internal_name.InternalName.{InternalName};
 ghost use Rattle.cedar_names.specs.declared.name.Name.{Name};
 ghost use Rattle.cedar_fragment_world.specs.of_namespace_definitions.Definitions.{AreDefinitionsOf, IsDefinitionOf};
-ghost use Rattle.cedar_phases.specs.Holding.{Definition, Fragment, world_of};
+ghost use Rattle.cedar_phases.specs.Holding.{Definition, Definitions, world_of};
 ghost use Rattle.cedar_refusal_laws.specs.Kinds.{DeclareFree, HaveTheirKinds, NamespaceHasKinds};
 ghost use Rattle.cedar_refusal_laws.specs.Made.{IsMade};
 ghost use Rattle.cedar_refusal_laws.specs.NeverComing.{never_comes};
@@ -37,7 +37,7 @@ pub fn kinds_rule_out()
     ensures worlds { (W : World) (e : Refusal) → HaveTheirKinds W.namespaces
         → DeclareFree (own W)
         → Cause W e → never_comes e ≡ false }
-    ensures definitions { (fs : List Fragment) (X : Extensions) (e : Refusal)
+    ensures definitions { (fs : List Definitions) (X : Extensions) (e : Refusal)
         → HaveTheirKinds (world_of fs X).namespaces
         → Cause (world_of fs X) e → never_comes e ≡ false }
 {}
@@ -51,7 +51,7 @@ pub fn what_is_made_has_its_kinds()
     ensures fragment { (F : List (Option Name × NamespaceDefinition RawName over_raw))
         → (ds : List Definition)
         → AreDefinitionsOf F ds → HaveTheirKinds (map namespace_in ds) }
-    ensures resolved { (fs : List Fragment) (X : Extensions) (e : Refusal)
+    ensures resolved { (fs : List Definitions) (X : Extensions) (e : Refusal)
         → AllPass IsMade (flat_map definitions_of fs)
         → Cause (world_of fs X) e → never_comes e ≡ false }
 {}

@@ -3,7 +3,7 @@
 use Rattle.std.proofs.Common.{List}
 use Rattle.cedar_definitions.specs.Structures.{definitions_of}
 use Rattle.cedar_names.specs.declared.extensions.Extensions.{Extensions}
-use Rattle.cedar_phases.specs.Holding.{Fragment, world_of}
+use Rattle.cedar_phases.specs.Holding.{Definitions, world_of}
 use Rattle.cedar_resolving_laws.specs.Reordered.{Reordered, with_namespaces}
 use Rattle.cedar_resolving_laws.proofs.Reordering.{flat_reordered, map_reordered}
 use Rattle.cedar_resolving_laws.proofs.Spread.{alike_reordered}
@@ -22,7 +22,7 @@ module _ (W : World) (all : List Namespace) (r : Reordered W.namespaces all) whe
   pub denotes_reordered : (S : Schema) → Sound W → Denotes W S → Denotes (with_namespaces W all) S
   denotes_reordered = denotes_alike W all (alike_reordered r)
 
-module _ (fs gs : List Fragment) (X : Extensions) (r : Reordered fs gs) where
+module _ (fs gs : List Definitions) (X : Extensions) (r : Reordered fs gs) where
   pub fragments_sound : Sound (world_of fs X) → Sound (world_of gs X)
   fragments_sound = sound_reordered (world_of fs X) (world_of gs X).namespaces (map_reordered namespace_in (flat_reordered definitions_of r))
 

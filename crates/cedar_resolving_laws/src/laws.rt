@@ -3,7 +3,7 @@ ghost use Rattle.std.specs.Prelude.{◌≡◌, ◌++◌, ◌∷◌, [], ℕ, Lis
 ghost use Rattle.cedar_declared.specs.Names.{is_declared};
 ghost use Rattle.cedar_names.specs.Components.{has_cedar};
 ghost use Rattle.cedar_names.specs.declared.extensions.Extensions.{Extensions};
-ghost use Rattle.cedar_phases.specs.Holding.{Fragment, world_of};
+ghost use Rattle.cedar_phases.specs.Holding.{Definitions, world_of};
 ghost use Rattle.cedar_resolving_laws.specs.Reordered.{DeclareAlike, Reordered, with_namespaces};
 ghost use Rattle.cedar_schema_error.specs.FullNames.{FullName, Uid};
 ghost use Rattle.cedar_phases.specs.of_sound.Sound.{Sound};
@@ -57,10 +57,10 @@ pub fn orders_of_fragments()
     ensures denotes { (W : World) (all : List Namespace) → Reordered W.namespaces all → (S : Schema)
         → Sound W
         → Denotes W S → Denotes (with_namespaces W all) S }
-    ensures fragments_sound { (fs gs : List Fragment) (X : Extensions) → Reordered fs gs
+    ensures fragments_sound { (fs gs : List Definitions) (X : Extensions) → Reordered fs gs
         → Sound (world_of fs X)
         → Sound (world_of gs X) }
-    ensures fragments_denote { (fs gs : List Fragment) (X : Extensions) → Reordered fs gs
+    ensures fragments_denote { (fs gs : List Definitions) (X : Extensions) → Reordered fs gs
         → (S : Schema)
         → Sound (world_of fs X) → Denotes (world_of fs X) S → Denotes (world_of gs X) S }
 {}

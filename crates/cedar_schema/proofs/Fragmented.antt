@@ -27,12 +27,12 @@ module _ (f : held.Fragment RawName over_raw) where
   same_faults = faults_alike ProhibitAttributes f.0
 
   -- the definitions are of its namespaces
-  pub namespaces_made : (r : Result phases.Fragment (Failure SchemaError)) → IfOk r (λ made. AreDefinitionsOf f.0 (definitions_of made)) → IfOk r (λ made. map namespace_in (definitions_of made) ≡ namespaces_of (fragment_seen f))
+  pub namespaces_made : (r : Result phases.Definitions (Failure SchemaError)) → IfOk r (λ made. AreDefinitionsOf f.0 (definitions_of made)) → IfOk r (λ made. map namespace_in (definitions_of made) ≡ namespaces_of (fragment_seen f))
   namespaces_made (Ok made) are = namespaces_are f.0 (definitions_of made) are
   namespaces_made (Err e) are = are
 
-  pub no_fault_seen : (r : Result phases.Fragment (Failure SchemaError)) → IfOk r (λ _. defined.fragment_faults ProhibitAttributes f ≡ []) → IfOk r (λ _. fragment_faults ProhibitAttributes (fragment_seen f) ≡ [])
+  pub no_fault_seen : (r : Result phases.Definitions (Failure SchemaError)) → IfOk r (λ _. defined.fragment_faults ProhibitAttributes f ≡ []) → IfOk r (λ _. fragment_faults ProhibitAttributes (fragment_seen f) ≡ [])
   no_fault_seen r none = subst (λ faults. IfOk r (λ _. faults ≡ [])) same_faults none
 
-  pub first_fault_seen : (r : Result phases.Fragment (Failure SchemaError)) → IfRefused r (λ e. IsFirst (defined.fragment_faults ProhibitAttributes f) (told e)) → IfRefused r (λ e. IsFirst (fragment_faults ProhibitAttributes (fragment_seen f)) (told e))
+  pub first_fault_seen : (r : Result phases.Definitions (Failure SchemaError)) → IfRefused r (λ e. IsFirst (defined.fragment_faults ProhibitAttributes f) (told e)) → IfRefused r (λ e. IsFirst (fragment_faults ProhibitAttributes (fragment_seen f)) (told e))
   first_fault_seen r first = subst (λ faults. IfRefused r (λ e. IsFirst faults (told e))) same_faults first
