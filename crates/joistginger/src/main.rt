@@ -1,6 +1,6 @@
 // SPDX-License-Identifier: Apache-2.0
-//! Runs the command that the words ask for on standard input. What it makes is written to standard
-//! output, or on standard error why the input is refused.
+//! Runs the command that the words ask for. What it makes of its text is written to standard output;
+//! why it refuses it, to standard error.
 #![tactic(auto)]
 
 use cedar_schema_tool::run_process;
