@@ -23,20 +23,20 @@ enum Check {
 
 /// `entities`: whether the value behind the line `---` is a list of entities of the schema before it.
 pub fn entities(alloc: Global, input: &str) -> Mem<String> {
-    check(alloc, Check::Entities, input)
+    check_list(alloc, Check::Entities, input)
 }
 
 /// `entity-fault`: the same, with what the calls of the fault answer, and whether a copy of it equals it.
 pub fn entity_fault(alloc: Global, input: &str) -> Mem<String> {
-    check(alloc, Check::EntityFault, input)
+    check_list(alloc, Check::EntityFault, input)
 }
 
 /// `request-fault`: the same of a list of requests.
 pub fn request_fault(alloc: Global, input: &str) -> Mem<String> {
-    check(alloc, Check::RequestFault, input)
+    check_list(alloc, Check::RequestFault, input)
 }
 
-fn check(alloc: Global, check: Check, input: &str) -> Mem<String> {
+fn check_list(alloc: Global, check: Check, input: &str) -> Mem<String> {
     let Some((text, list)) = input.split_once("\n---\n") else {
         return line_of(alloc, "no line `---`");
     };

@@ -149,7 +149,7 @@ module _ (words : List (List ℕ)) (command : Command) (x : Extensions) (found :
   source-runs ReadFault a = (to_read, a.0, a.1, a.2)
   source-runs TooLong a = (to_read, a.0, a.1, a.2)
   source-runs NotUtf8 a = (to_read, a.0, a.1, a.2, a.3, a.4)
-  source-runs NoMemory a = (inr (to_read, a.0), a.1)
+  source-runs NoMemory a = (inr (to_read, a.0), a.1, a.2)
   source-runs Done a = text-runs words command x found before after a.0 (works-read command before after a.0 reading a.1) Done a.2
   source-runs Refused a = text-runs words command x found before after a.0 (works-read command before after a.0 reading a.1) Refused a.2
   source-runs WriteFault a = text-runs words command x found before after a.0 (works-read command before after a.0 reading a.1) WriteFault a.2
