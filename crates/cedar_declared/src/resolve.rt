@@ -1,13 +1,13 @@
 // SPDX-License-Identifier: Apache-2.0
 ghost use Rattle.std.specs.Prelude.{◌≡◌, Some, true};
 ghost use Rattle.std.specs.List.{find};
-ghost use Rattle.std.specs.Option.{is_some};
+ghost use Rattle.std.specs.Option.{is_some, option_copied};
 ghost use Rattle.cedar_names.specs.Components.{components};
 ghost use Rattle.cedar_names.specs.of_text.Lists.{elements_left};
 ghost use Rattle.cedar_written.specs.Possibilities.{kind_of, possibilities_of};
 ghost use Rattle.cedar_declared.specs.Held.{names_of};
 ghost use Rattle.cedar_declared.specs.Names.{is_declared};
-ghost use Rattle.cedar_declared.specs.Targets.{resolved};
+ghost use Rattle.cedar_declared.specs.Targets.{found, resolved};
 
 use crate::all_defs::AllDefs;
 use cedar_data::Items;
@@ -98,18 +98,29 @@ impl AllDefs {
         }
     }
 
-    /// Whether one of the names is declared as what the kind allows.
-    fn is_any_declared(&self, kind: ReferenceType, names: NonEmptyIter<'_, InternalName>) -> bool
-        ensures { result ≡ is_some (find
+    /// The first of the names that is declared as what the kind allows.
+    fn find_declared<'a>(
+        &self,
+        kind: ReferenceType,
+        names: NonEmptyIter<'a, InternalName>,
+    ) -> Option<&'a InternalName>
+        ensures { option_copied result ≡ find
             (λ p. is_declared (names_of self.now) kind (components p))
-            (elements_left names.entry)) }
+            (elements_left names.entry) }
     {
         for name in names {
             if self.is_declared(kind, name) {
-                return true;
+                return Some(name);
             }
         }
-        false
+        None
+    }
+
+    /// The full name that a reference means, if it means one. It takes no memory.
+    pub fn find_target<'a>(&self, name: &'a ConditionalName) -> Option<&'a InternalName>
+        ensures { option_copied result ≡ found (names_of self.now) name.now }
+    {
+        self.find_declared(name.reference_type(), name.possibilities())
     }
 
     /// Whether another name that a reference may stand for is declared as what it may be.
@@ -120,6 +131,6 @@ impl AllDefs {
     {
         let mut others = name.possibilities();
         others.next();
-        self.is_any_declared(name.reference_type(), others)
+        self.find_declared(name.reference_type(), others).is_some()
     }
 }

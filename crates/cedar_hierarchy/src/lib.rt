@@ -13,4 +13,3 @@ mod uses;
 pub use actions::resolved_actions;
 pub use cedar_outlines::{ActionOutline, EntityOutline, Tables};
 pub use entity_types::resolved_entity_types;
-pub use targets::find_target;

@@ -1,13 +1,13 @@
 // SPDX-License-Identifier: Apache-2.0
 //! What references mean.
 ghost use Rattle.std.specs.Prelude.{◌≡◌, ◌||◌, true, false, IfOk, OnOk, MatchOption};
-ghost use Rattle.std.specs.Option.{option_copied, option_map};
+ghost use Rattle.std.specs.Option.{option_map};
 ghost use Rattle.std.specs.List.{list_any};
 ghost use Rattle.std.specs.List.Sorted.{IsStrictlySortedBy};
 ghost use Rattle.cedar_data.specs.Sets.{contains};
 ghost use Rattle.cedar_outlines.specs.of_declared.Held.{names_of};
-ghost use Rattle.cedar_outlines.specs.of_declared.Names.{action_target, is_action, is_declared};
-ghost use Rattle.cedar_outlines.specs.of_declared.Targets.{action_at, found};
+ghost use Rattle.cedar_outlines.specs.of_declared.Names.{action_target, is_action};
+ghost use Rattle.cedar_outlines.specs.of_declared.Targets.{action_at};
 ghost use Rattle.cedar_hierarchy.specs.Targets.{is_action_meant, is_here, is_type_meant};
 ghost use Rattle.cedar_names.specs.Components.{components, has_cedar};
 ghost use Rattle.cedar_names.specs.Names.{entity_words};
@@ -17,7 +17,7 @@ ghost use Rattle.cedar_schema_error.specs.NameReferences.{action_reference_of};
 use cedar_data::{Dup, Mem, Set, Text};
 use cedar_names::{Eid, EntityType, EntityUID, InternalName, Name};
 use cedar_outlines::AllDefs;
-use cedar_schema_error::{ActionEntityUID, ConditionalName, ReferenceType};
+use cedar_schema_error::{ActionEntityUID, ConditionalName};
 use std::alloc::Global;
 
 /// References to what has keys `K`.
@@ -83,32 +83,6 @@ fn add_found<K: Ord + Drop>(found: Option<K>, keys: &mut Set<K>) -> Mem<()>
             Ok(())
         }
     }
-}
-
-/// Whether the name is declared as what the kind allows.
-fn is_declared(all_defs: &AllDefs, kind: ReferenceType, name: &InternalName) -> bool
-    ensures { result ≡ is_declared (names_of all_defs.now) kind (components name.now) }
-{
-    match kind {
-        ReferenceType::Common => all_defs.is_defined_as_common(name),
-        ReferenceType::Entity => all_defs.is_defined_as_entity(name),
-        ReferenceType::CommonOrEntity => {
-            all_defs.is_defined_as_common(name) || all_defs.is_defined_as_entity(name)
-        }
-    }
-}
-
-/// The full name that a reference means, if it means one. It takes no memory.
-pub fn find_target<'a>(all_defs: &AllDefs, name: &'a ConditionalName) -> Option<&'a InternalName>
-    ensures { option_copied result ≡ found (names_of all_defs.now) name.now }
-{
-    let kind = name.reference_type();
-    for possibility in name.possibilities() {
-        if is_declared(all_defs, kind, possibility) {
-            return Some(possibility);
-        }
-    }
-    None
 }
 
 /// The entity type of a name, unless a component of it is `__cedar`.
@@ -188,7 +162,7 @@ impl IsReference<EntityType> for ConditionalName {
     ghost is_meant = { is_type_meant };
 
     fn meant(&self, alloc: Global, all_defs: &AllDefs) -> Mem<Option<EntityType>> {
-        match find_target(all_defs, self) {
+        match all_defs.find_target(self) {
             None => Ok(None),
             Some(name) => type_named(alloc, name),
         }

@@ -2,7 +2,7 @@
 //! What parents, principals and resources miss.
 ghost use Rattle.cedar_missing.specs.Undeclared.{missing_in_each, missing_in_name, missing_in_parent};
 
-use crate::found::{find_parent, find_target};
+use crate::found::find_parent;
 use crate::looked_at::HasReferences;
 use crate::missing::Missing;
 use cedar_data::{Dup, Mem, Set};
@@ -15,7 +15,7 @@ impl HasReferences for ConditionalName {
 
     fn missing(&self, alloc: Global, all_defs: &AllDefs) -> Mem<Missing> {
         let mut missing = Missing::none(alloc);
-        match find_target(all_defs, self) {
+        match all_defs.find_target(self) {
             None => missing.types.push(self.dup(alloc)?)?,
             Some(target) => {
                 if target.is_reserved() {

@@ -6,7 +6,6 @@ ghost use Rattle.cedar_declared.specs.Held.{names_of};
 ghost use Rattle.cedar_missing.specs.Undeclared.{first_undefined, missing_in_type, references_of_attributes, unless_found};
 ghost use Rattle.cedar_written.specs.References.{references, references_of_attribute, references_of_record, references_of_variant};
 
-use crate::found::find_target;
 use cedar_data::{Dup, Items, Map, Mem, Text};
 use cedar_declared::{
     AllDefs, ConditionalName, RecordType, SchemaType, TypeOfAttribute, TypeVariant,
@@ -32,7 +31,7 @@ pub(crate) fn missing_in_type(
 fn undefined_name<'a>(all_defs: &AllDefs, name: &'a ConditionalName) -> Option<&'a ConditionalName>
     ensures { option_copied result ≡ unless_found (names_of all_defs.now) name.now }
 {
-    match find_target(all_defs, name) {
+    match all_defs.find_target(name) {
         Some(_) => None,
         None => Some(name),
     }

@@ -9,7 +9,7 @@ ghost use Rattle.cedar_hierarchy.specs.of_outlines.Outlines.{action_outline_in, 
 
 use cedar_data::{Dup, Map, Mem, Set};
 use cedar_declared::AllDefs;
-use cedar_hierarchy::{ActionOutline, EntityOutline, find_target};
+use cedar_hierarchy::{ActionOutline, EntityOutline};
 use cedar_names::{EntityType, EntityUID, InternalName};
 use cedar_schema_error::{ConditionalName, ReferenceType};
 use std::alloc::Global;
@@ -24,7 +24,7 @@ fn push_unless_entity(
     ensures { OnOk result (map components names.new.items ≡ map components names.old.items
         ++ other_targets (names_of all_defs.now) (reference_of reference.now ∷ [])) }
 {
-    match find_target(all_defs, reference) {
+    match all_defs.find_target(reference) {
         None => Ok(()),
         Some(name) => {
             if all_defs.is_defined_as_entity(name) {

@@ -5,7 +5,7 @@ use Rattle.cedar_names.specs.Components.{components}
 use Rattle.cedar_names.specs.of_text.Lists.{elements_left}
 use Rattle.cedar_declared.specs.Held.{names_of}
 use Rattle.cedar_declared.specs.Names.{is_declared}
-use Rattle.cedar_declared.proofs.all_defs.AllDefs.is_any_declared.Given as goal
+use Rattle.cedar_declared.proofs.all_defs.AllDefs.find_declared.Given as goal
 
 -- the first of those that are left is the first of all
 abbrev pub invariant-loop-name : goal.invariant-loop-name
