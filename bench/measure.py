@@ -44,16 +44,30 @@ def written(text):
         yield source.name
 
 
+# Starts the program and tells how it ended, what it took and its peak memory: from a process that is small itself, since
+# the kernel counts as a program's peak also what the process held that became it.
+LAUNCHER = """
+import os, sys
+child = os.posix_spawnp(sys.argv[2], sys.argv[2:], os.environ)
+_, status, usage = os.wait4(child, 0)
+seconds = usage.ru_utime + usage.ru_stime
+os.write(int(sys.argv[1]), b"%d %f %d" % (os.waitstatus_to_exitcode(status), seconds, usage.ru_maxrss))
+"""
+
+
 def run(program, path, statuses, words=("resolve",)):
     """Processor seconds and peak memory in MB of one run, which has to end with one of these statuses."""
+    environment = os.environ if program == PEER else tuned()
+    reader, writer = os.pipe()
     with open(path, "rb") as source, open(os.devnull, "wb") as out:
-        environment = os.environ if program == PEER else tuned()
-        child = subprocess.Popen([program, *words], stdin=source, stdout=out, stderr=out, env=environment)
-        _, status, usage = os.wait4(child.pid, 0)
-    child.returncode = os.waitstatus_to_exitcode(status)
-    if child.returncode not in statuses:
-        sys.exit(f"{program} ended with status {child.returncode}")
-    return usage.ru_utime + usage.ru_stime, usage.ru_maxrss / 1024
+        launcher = [sys.executable, "-I", "-S", "-c", LAUNCHER, str(writer), program, *words]
+        subprocess.run(launcher, stdin=source, stdout=out, stderr=out, env=environment, pass_fds=[writer], check=True)
+    os.close(writer)
+    with os.fdopen(reader) as told:
+        status, seconds, kilobytes = told.read().split()
+    if int(status) not in statuses:
+        sys.exit(f"{program} ended with status {status}")
+    return float(seconds), int(kilobytes) / 1024
 
 
 def best_of_three(program, path, statuses=(0,), words=("resolve",)):
