@@ -160,7 +160,8 @@ fn check_whole(
 }
 
 /// The envelope that the text is: an object in JSON that has a text at each of the keys `texts`, a value at each of the
-/// keys `values`, no other key, and no key twice. Any other text is refused with its first fault.
+/// keys `values`, no other key, and no key twice. Any other text is refused with its first fault. No key may stand
+/// twice in `texts` and `values`.
 pub fn read_envelope(
     alloc: Global,
     text: &str,

@@ -1,5 +1,5 @@
 // SPDX-License-Identifier: Apache-2.0
-ghost use Rattle.std.specs.Prelude.{◌≡◌, ◌++◌, OnOk, IfOk};
+ghost use Rattle.std.specs.Prelude.{◌≡◌, ◌++◌, IfOk};
 ghost use Rattle.std.specs.List.{flat_map};
 ghost use Rattle.cedar_data.specs.Answers.{IfRefused};
 ghost use Rattle.cedar_declared.specs.Gathering.{declared_names};
@@ -17,6 +17,7 @@ use cedar_names::Extensions;
 use cedar_qualified::builtin_definitions;
 use cedar_schema_error::{ConditionalName, SchemaError};
 use cedar_sound::ShadowingChecks;
+use cedar_text::push_all;
 use std::alloc::Global;
 
 /// The definition of a namespace.
@@ -34,16 +35,6 @@ pub(crate) struct Declarations {
     pub definitions: Definitions,
 }
 
-/// Puts more items behind the others.
-fn push_all<T: Drop>(items: &mut Vec<T>, more: Vec<T>) -> Mem<()>
-    ensures { OnOk result (items.new.items ≡ items.old.items ++ more.items) }
-{
-    for item in more {
-        items.push(item)?;
-    }
-    Ok(())
-}
-
 /// The definitions of all fragments, in order.
 #[tactic(auto, using(cedar_outlines::proofs::Appended::appended))]
 fn all_definitions(alloc: Global, fragments: Vec<Definitions>) -> Mem<Vec<Definition>>
@@ -51,7 +42,7 @@ fn all_definitions(alloc: Global, fragments: Vec<Definitions>) -> Mem<Vec<Defini
 {
     let mut all = Vec::new(alloc);
     for fragment in fragments {
-        push_all(&mut all, fragment.into_definitions())?;
+        push_all(fragment.into_definitions(), &mut all)?;
     }
     Ok(all)
 }
@@ -62,7 +53,7 @@ fn join(alloc: Global, fragments: Vec<Definitions>, last: Definitions) -> Mem<De
         ++ definitions_of last) }
 {
     let mut all = all_definitions(alloc, fragments)?;
-    push_all(&mut all, last.into_definitions())?;
+    push_all(last.into_definitions(), &mut all)?;
     Ok(ValidatorSchemaFragment::from_namespaces(all))
 }
 

@@ -27,21 +27,22 @@ use cedar_phases::{FromSchemaFragments, ValidatorSchema};
 use cedar_schema_error::{ActionBehavior, SchemaError};
 use std::alloc::Global;
 
-/// What a fragment denotes, where actions may have no attributes.
+/// What a fragment denotes. One in which an action has attributes is refused.
 pub trait FromFragment: Sized {
     /// What the fragment denotes, with all extension types that there are. Refused with the first
     /// fault of its definitions, or else with what is wrong with their world. Each entity type and
     /// each action has the place that the fragment has for it.
     fn from_fragment(alloc: Global, fragment: Fragment<RawName>) -> Out<Self, SchemaError>;
 
-    /// The same with these extension types.
+    /// What the fragment denotes with these extension types, and else as `from_fragment`.
     fn from_fragment_with(
         alloc: Global,
         fragment: Fragment<RawName>,
         extensions: &Extensions,
     ) -> Out<Self, SchemaError>;
 
-    /// What the fragment of one namespace denotes, which has no name and declares this.
+    /// What the fragment of one namespace denotes, which has no name and declares this; refused as
+    /// `from_fragment` refuses it.
     fn from_namespace_definition(
         alloc: Global,
         namespace_def: NamespaceDefinition<RawName>,

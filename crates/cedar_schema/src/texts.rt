@@ -46,7 +46,8 @@ pub trait FromCedarSchema: Sized {
         extensions: &Extensions,
     ) -> Out<(Self, Vec<SchemaWarning>), CedarSchemaError>;
 
-    /// What the text denotes with all extension types that there are.
+    /// What the text denotes with all extension types that there are, without its warnings; refused
+    /// as `from_cedarschema_str` refuses it.
     fn parse(alloc: Global, src: &str) -> Out<Self, CedarSchemaError>;
 }
 

@@ -1,6 +1,7 @@
 // SPDX-License-Identifier: Apache-2.0
 //! Schemas, in one crate for their users: a schema is made from a text, from JSON, from a fragment or from definitions,
-//! and asked about its entity types, its actions and its request environments. It has no code of its own.
+//! and asked about its entity types, its actions and its request environments. It has no code of its own. The laws of
+//! schemas stand in crates of their own, such as `cedar_reread_laws`, of what is printed, and `cedar_resolving_laws`.
 #![tactic(auto)]
 
 pub use cedar_phases::FromSchemaFragments;
