@@ -1,10 +1,13 @@
 -- SPDX-License-Identifier: Apache-2.0
 -- A loop that counts the environments before those of each action, and what is found among what it made.
-use Rattle.std.proofs.Common.{◌≡◌, ℕ, ◌+◌, ◌-◌, ◌^◌, ◌≤◌, Bool, true, false, if◌then◌else◌, List, [], ◌∷◌, ◌++◌, map, Option, Some, None, refl, sym, ap, ◌∙◌, arith, append_assoc, append-nil}
+use Rattle.std.proofs.Common.{◌≡◌, ℕ, ◌+◌, ◌-◌, ◌^◌, ◌≤◌, Bool, true, false, if◌then◌else◌, List, [], ◌∷◌, ◌++◌, map, Option, Some, None, refl, sym, ap, ◌∙◌, subst, arith, append_assoc, append-nil}
+use Rattle.std.proofs.lemmas.List.Elements.{All-nil, All-push}
+use Rattle.std.proofs.lemmas.Map.Entries.{All-lookup}
 use Rattle.std.specs.BTreeMap.{is_at}
+use Rattle.std.specs.List.{All}
 use Rattle.std.specs.List.Sorted.{IsStrictlySortedBy}
 use Rattle.std.specs.Map.{keys_of}
-use Rattle.std.specs.Option.{option_map, unwrap_or}
+use Rattle.std.specs.Option.{IfSome, option_map, unwrap_or}
 use Rattle.std.specs.declared.result.Result.TheVariants.{Ok, Err}
 use Rattle.cedar_data.specs.Maps.{IsSortedMap, get}
 use Rattle.cedar_data.proofs.Rebuild.{sorted_next_key}
@@ -16,7 +19,7 @@ use Rattle.cedar_resolved.specs.declared.action.ValidatorActionId.{ValidatorActi
 use Rattle.cedar_resolved.specs.declared.schema.ValidatorSchema.{ValidatorSchema}
 use Rattle.cedar_schema_error.specs.FullNames.{FullName, Uid, uid_in}
 use Rattle.cedar_request.proofs.Actions.{action-known, action-missing}
-use Rattle.cedar_request.specs.Counts.{AreCounted, counted_in, counts_from}
+use Rattle.cedar_request.specs.Counts.{AreCounted, HasPlaces, counted_in, counts_from}
 use Rattle.cedar_request.specs.Numbers.{number, place_in, size_before, size_of}
 use Rattle.cedar_request.specs.RequestChecks.{Says, action_check}
 use Rattle.cedar_request.specs.RequestFlaws.{unknown_action}
@@ -53,16 +56,18 @@ held-more (x ∷ xs) c = ap (λ cs. counted_in x ∷ cs) (held-more xs c)
 -- a loop over the actions of a schema that has `left` before it has counted those so far
 pub record CountsOn (V : ValidatorSchema) (left : List Action) (counted : List Count) (before : ℕ) : Type 0 where
   pub is : map counted_in counted ++ counts_from before left ≡ counts_from 0 (action_types V)
+  pub places : All (λ e. HasPlaces e.1) counted
 
 pub CountsOn-start : (V : ValidatorSchema) (left : List Action) (counted : List Count) (before : ℕ) → left ≡ action_types V → counted ≡ [] → before ≡ 0 → CountsOn V left counted before
 CountsOn-start V left counted before all none zeroth = record {
   is = ap (λ cs. map counted_in cs ++ counts_from before left) none ∙ ap (λ n. counts_from n left) zeroth ∙ ap (counts_from 0) all;
+  places = subst (All (λ e. HasPlaces e.1)) (sym none) (All-nil (λ e. HasPlaces e.1));
 }
 
 module _ {V : ValidatorSchema} {left : List Action} {counted : List Count} {before : ℕ} where
   pub CountsOn-next : {rest : List Action} {more : List Count} {key name : EntityUID} (held : Counted) {action : ValidatorActionId} {next : ℕ} → CountsOn V left counted before → left ≡ (name, action) ∷ rest → more ≡ counted ++ (key, held) ∷ []
-      → key ≡ name → held.action.now ≡ action → held.before ≡ before → next ≡ in_64_bits (before + in_64_bits (size_of (action_of action))) → CountsOn V rest more next
-  CountsOn-next {rest} {more} {key} {name} held {action} {next} sofar at_left pushed same value stood counted_on =
+      → key ≡ name → held.action.now ≡ action → held.before ≡ before → next ≡ in_64_bits (before + in_64_bits (size_of (action_of action))) → HasPlaces held → CountsOn V rest more next
+  CountsOn-next {rest} {more} {key} {name} held {action} {next} sofar at_left pushed same value stood counted_on has =
       let here : counted_in (key, held) ≡ (name, (action, before)) = λ i. (same i, (value i, stood i)) in
       record {
         is = ap (λ cs. map counted_in cs ++ counts_from next rest) pushed
@@ -72,6 +77,7 @@ module _ {V : ValidatorSchema} {left : List Action} {counted : List Count} {befo
             ∙ ap (λ n. map counted_in counted ++ (name, (action, before)) ∷ counts_from n rest) counted_on
             ∙ ap (λ es. map counted_in counted ++ counts_from before es) (sym at_left)
             ∙ sofar.is;
+        places = subst (All (λ e. HasPlaces e.1)) (sym pushed) (All-push (λ e. HasPlaces e.1) counted (key, held) sofar.places has);
       }
 
   pub CountsOn-sorted : {rest : List Action} {key name : EntityUID} {action : ValidatorActionId} → CountsOn V left counted before → left ≡ (name, action) ∷ rest → key ≡ name → IsSortedMap uid_cmp (action_types V) → IsStrictlySortedBy uid_cmp (keys_of counted ++ key ∷ [])
@@ -87,7 +93,10 @@ module _ {V : ValidatorSchema} {left : List Action} {counted : List Count} {befo
           ∙ keys-counted 0 (action_types V)
 
   pub CountsOn-end : CountsOn V left counted before → left ≡ [] → AreCounted V counted
-  CountsOn-end sofar none = sym (append-nil (map counted_in counted)) ∙ ap (λ es. map counted_in counted ++ counts_from before es) (sym none) ∙ sofar.is
+  CountsOn-end sofar none = record {
+    counts = sym (append-nil (map counted_in counted)) ∙ ap (λ es. map counted_in counted ++ counts_from before es) (sym none) ∙ sofar.is;
+    places = sofar.places;
+  }
 
 pub ruleset counts = (CountsOn-start, CountsOn-end)
 
@@ -141,7 +150,7 @@ none-counted n (Some a) is = absurd (cc)
 
 module _ (V : ValidatorSchema) (counted : List Count) (are : AreCounted V counted) (u : EntityUID) where
   both : option_map value_of (get uid_cmp counted u) ≡ option_map (with_number (in_64_bits (0 + size_before (map action_in (action_types V)) (uid_in u)))) (get uid_cmp (action_types V) u)
-  both = sym (found-held u counted) ∙ ap (λ es. get uid_cmp es u) are ∙ found-counted 0 (action_types V) u (omega arith)
+  both = sym (found-held u counted) ∙ ap (λ es. get uid_cmp es u) are.counts ∙ found-counted 0 (action_types V) u (omega arith)
 
   found-of : (c : Counted) → get uid_cmp counted u ≡ Some c → (get uid_cmp (action_types V) u ≡ Some c.action.now) × (c.before ≡ in_64_bits (0 + size_before (map action_in (action_types V)) (uid_in u)))
   found-of c is = some-counted (in_64_bits (0 + size_before (map action_in (action_types V)) (uid_in u))) (get uid_cmp (action_types V) u) c (ap (option_map value_of) (sym is) ∙ both)
@@ -158,7 +167,10 @@ module _ (V : ValidatorSchema) (counted : List Count) (are : AreCounted V counte
       from_zero : (n : ℕ) → 0 + n ≡ n
       from_zero n = omega arith
 
-pub ruleset named = (named-known, named-missing, named-before)
+  pub named-places : (c : Counted) → get uid_cmp counted u ≡ Some c → HasPlaces c
+  named-places c is = subst (λ o. IfSome o HasPlaces) is (All-lookup HasPlaces (is_at (uid_cmp u)) counted are.places)
+
+pub ruleset named = (named-known, named-missing, named-before, named-places)
 
 -- ---- the number of an environment
 

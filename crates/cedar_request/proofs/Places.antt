@@ -1,52 +1,90 @@
 -- SPDX-License-Identifier: Apache-2.0
--- A loop that counts what stands before a type.
-use Rattle.std.proofs.Common.{◌≡◌, ℕ, suc, ◌+◌, ◌≤◌, Bool, true, false, if◌then◌else◌, List, [], ◌∷◌, length, map, ap, ◌∙◌, arith}
+-- A loop that tells of each type how many stand before it, and what is found among what it made.
+use Rattle.std.proofs.Common.{◌≡◌, ℕ, suc, ◌+◌, Bool, true, false, if◌then◌else◌, List, [], ◌∷◌, ◌++◌, length, map, Option, Some, refl, sym, ap, ◌∙◌, arith, append_assoc, append-nil}
+use Rattle.std.proofs.lemmas.List.{length-append}
 use Rattle.std.specs.BTreeMap.{is_at}
-use Rattle.cedar_names.specs.Names.{entity_words}
-use Rattle.cedar_names.specs.Order.{words_cmp}
+use Rattle.std.specs.List.Sorted.{IsStrictlySortedBy}
+use Rattle.std.specs.Map.{keys_of}
+use Rattle.std.specs.Option.{unwrap_or}
+use Rattle.cedar_data.specs.Maps.{get}
+use Rattle.cedar_data.proofs.Rebuild.{keys_of-append, sorted_next_key}
+use Rattle.cedar_names.specs.Names.{entity_cmp, entity_words}
 use Rattle.cedar_names.specs.declared.name.EntityType.{EntityType}
-use Rattle.cedar_schema_error.specs.FullNames.{FullName}
+use Rattle.cedar_request.specs.Counts.{ArePlaces}
 use Rattle.cedar_request.specs.Numbers.{place_among}
 
--- how many stand before a type, where this is said of the first of them
-before : (name : FullName) (b : Bool) {left rest : List EntityType} {ty : EntityType} → left ≡ ty ∷ rest → is_at (words_cmp name) (entity_words ty) ≡ b
-    → place_among (map entity_words left) name ≡ (if b then 0 else suc (place_among (map entity_words rest) name))
-before name b {rest = rest} {ty = ty} at_left is =
-    ap (λ ts. place_among (map entity_words ts) name) at_left
-    ∙ ap (λ c. if c then 0 else suc (place_among (map entity_words rest) name)) is
+-- each type with how many stand before it, where so many stand before all
+abbrev pub places_from : ℕ → List EntityType → List (EntityType × ℕ)
+places_from before [] = []
+places_from before (ty ∷ types) = (ty, before) ∷ places_from (suc before) types
 
--- a loop over `whole` that has `left` before it hasn't met the type so far
-pub record SeeksType (name : EntityType) (whole left : List EntityType) (place : ℕ) : Type 0 where
-  pub is : place_among (map entity_words whole) (entity_words name) ≡ place + place_among (map entity_words left) (entity_words name)
-  pub count : place + length left ≡ length whole
+keys-placed : (before : ℕ) (types : List EntityType) → keys_of (places_from before types) ≡ types
+keys-placed before [] = refl
+keys-placed before (ty ∷ types) = ap (λ ts. ty ∷ ts) (keys-placed (suc before) types)
 
-pub SeeksType-start : (name : EntityType) (whole left : List EntityType) (place : ℕ) → left ≡ whole → place ≡ 0 → SeeksType name whole left place
-SeeksType-start name whole left place all zeroth =
-    let first : place_among (map entity_words left) (entity_words name) ≡ place_among (map entity_words whole) (entity_words name) = ap (λ ts. place_among (map entity_words ts) (entity_words name)) all in
-    let second : length left ≡ length whole = ap length all in
-    record { is = omega (arith, first, zeroth); count = omega (arith, second, zeroth) }
+-- ---- what is found
 
-module _ {name : EntityType} {whole left : List EntityType} {place : ℕ} where
-  pub SeeksType-next : {rest : List EntityType} {ty : EntityType} {next : ℕ} → SeeksType name whole left place → left ≡ ty ∷ rest → next ≡ place + 1 → is_at (words_cmp (entity_words name)) (entity_words ty) ≡ false → SeeksType name whole rest next
-  SeeksType-next {rest} sofar at_left counted other =
-      let more : place_among (map entity_words left) (entity_words name) ≡ suc (place_among (map entity_words rest) (entity_words name)) = before (entity_words name) false at_left other in
-      let longer : length left ≡ suc (length rest) = ap length at_left in
-      record { is = omega (arith, sofar.is, more, counted); count = omega (arith, sofar.count, longer, counted) }
+first_or : (b : Bool) (n : ℕ) (rest : Option ℕ) (place count : ℕ) → unwrap_or rest (suc n + count) ≡ suc n + place
+    → unwrap_or (if b then Some n else rest) (n + suc count) ≡ n + (if b then 0 else suc place)
+first_or true n rest place count is = omega arith
+first_or false n rest place count is = ap (unwrap_or rest) (shuffle n count) ∙ is ∙ sym (shuffle n place)
+  where
+    shuffle : (n m : ℕ) → n + suc m ≡ suc n + m
+    shuffle n m = omega arith
 
-  pub SeeksType-found : {rest : List EntityType} {ty : EntityType} → SeeksType name whole left place → left ≡ ty ∷ rest → is_at (words_cmp (entity_words name)) (entity_words ty) ≡ true → place ≡ place_among (map entity_words whole) (entity_words name)
-  SeeksType-found sofar at_left same =
-      let none : place_among (map entity_words left) (entity_words name) ≡ 0 = before (entity_words name) true at_left same in
-      omega (arith, sofar.is, none)
+found-placed : (n : ℕ) (types : List EntityType) (ty : EntityType) → unwrap_or (get entity_cmp (places_from n types) ty) (n + length types) ≡ n + place_among (map entity_words types) (entity_words ty)
+found-placed n [] ty = refl
+found-placed n (t ∷ types) ty =
+    first_or (is_at (entity_cmp ty) t) n (get entity_cmp (places_from (suc n) types) ty) (place_among (map entity_words types) (entity_words ty)) (length types) (found-placed (suc n) types ty)
 
-  pub SeeksType-end : SeeksType name whole left place → left ≡ [] → length whole ≡ place_among (map entity_words whole) (entity_words name)
-  SeeksType-end sofar none =
-      let last : place_among (map entity_words left) (entity_words name) ≡ 0 = ap (λ ts. place_among (map entity_words ts) (entity_words name)) none in
-      let empty : length left ≡ 0 = ap length none in
-      omega (arith, sofar.is, sofar.count, last, empty)
+are-placed : (types : List EntityType) (places : List (EntityType × ℕ)) → places ≡ places_from 0 types → ArePlaces types places
+are-placed types places is ty =
+    ap (λ ps. unwrap_or (get entity_cmp ps ty) (length types)) is
+    ∙ ap (unwrap_or (get entity_cmp (places_from 0 types) ty)) (sym (from_zero (length types)))
+    ∙ found-placed 0 types ty
+    ∙ from_zero (place_among (map entity_words types) (entity_words ty))
+  where
+    from_zero : (n : ℕ) → 0 + n ≡ n
+    from_zero n = omega arith
 
-  pub SeeksType-room : {rest : List EntityType} {ty : EntityType} → SeeksType name whole left place → left ≡ ty ∷ rest → place + 1 ≤ length whole
-  SeeksType-room {rest} sofar at_left =
-      let longer : length left ≡ suc (length rest) = ap length at_left in
-      omega (arith, sofar.count, longer)
+-- ---- the loop
 
-pub ruleset places = (SeeksType-start, SeeksType-next, SeeksType-found, SeeksType-end, SeeksType-room)
+-- a loop over `whole` that has `left` before it has told the places of those so far
+pub record PlacesOn (whole left : List EntityType) (places : List (EntityType × ℕ)) : Type 0 where
+  pub is : places ++ places_from (length places) left ≡ places_from 0 whole
+
+pub PlacesOn-start : (whole left : List EntityType) (places : List (EntityType × ℕ)) → left ≡ whole → places ≡ [] → PlacesOn whole left places
+PlacesOn-start whole left places all none = record {
+  is = ap (λ ps. ps ++ places_from (length ps) left) none ∙ ap (places_from 0) all;
+}
+
+module _ {whole left : List EntityType} {places : List (EntityType × ℕ)} where
+  pub PlacesOn-next : {rest : List EntityType} {more : List (EntityType × ℕ)} {key ty : EntityType} {place : ℕ} → PlacesOn whole left places → left ≡ ty ∷ rest → key ≡ ty → place ≡ length places → more ≡ places ++ (key, place) ∷ [] → PlacesOn whole rest more
+  PlacesOn-next {rest} {more} {key} {ty} {place} sofar at_left same counted pushed =
+      let here : more ≡ places ++ (ty, length places) ∷ [] = pushed ∙ ap (λ e. places ++ e ∷ []) (λ i. (same i, counted i)) in
+      let longer : length more ≡ suc (length places) = ap length here ∙ length-append places ((ty, length places) ∷ []) ∙ one_more (length places) in
+      record {
+        is = ap (λ n. more ++ places_from n rest) longer
+            ∙ ap (λ ps. ps ++ places_from (suc (length places)) rest) here
+            ∙ append_assoc places ((ty, length places) ∷ []) (places_from (suc (length places)) rest)
+            ∙ ap (λ ts. places ++ places_from (length places) ts) (sym at_left)
+            ∙ sofar.is;
+      }
+    where
+      one_more : (n : ℕ) → n + 1 ≡ suc n
+      one_more n = omega arith
+
+  pub PlacesOn-sorted : {rest : List EntityType} {key ty : EntityType} → PlacesOn whole left places → left ≡ ty ∷ rest → key ≡ ty → IsStrictlySortedBy entity_cmp whole → IsStrictlySortedBy entity_cmp (keys_of places ++ key ∷ [])
+  PlacesOn-sorted sofar at_left same sorted = sorted_next_key entity_cmp (keys_of places) split at_left same sorted
+    where
+      split : keys_of places ++ left ≡ whole
+      split =
+          ap (λ ks. keys_of places ++ ks) (sym (keys-placed (length places) left))
+          ∙ sym (keys_of-append places (places_from (length places) left))
+          ∙ ap keys_of sofar.is
+          ∙ keys-placed 0 whole
+
+  pub PlacesOn-end : PlacesOn whole left places → left ≡ [] → ArePlaces whole places
+  PlacesOn-end sofar none = are-placed whole places (sym (append-nil places) ∙ ap (λ ts. places ++ places_from (length places) ts) (sym none) ∙ sofar.is)
+
+pub ruleset places = (PlacesOn-start, PlacesOn-end)

@@ -7,7 +7,7 @@ ghost use Rattle.cedar_names.specs.Names.{entity_words};
 ghost use Rattle.cedar_conform.specs.Checks.{Tells, passed};
 ghost use Rattle.cedar_conform.specs.ValueChecks.{known_check};
 ghost use Rattle.cedar_resolved.specs.Schemas.{action_types};
-ghost use Rattle.cedar_request.specs.Counts.{AreCounted};
+ghost use Rattle.cedar_request.specs.Counts.{AreCounted, HasPlaces};
 ghost use Rattle.cedar_request.specs.Numbers.{size_before};
 ghost use Rattle.cedar_request.specs.PartViews.{parts_in};
 ghost use Rattle.cedar_request.specs.RequestChecks.{Says, action_check, context_check, entity_known, environment_check, principal_check, resource_check, type_check};
@@ -26,29 +26,28 @@ use std::alloc::Global;
 
 /// The action of this name, among those of the schema.
 #[tactic(auto, using(crate::proofs::Counting::named, crate::proofs::Actions::actions))]
-fn action_named<'a>(
+fn action_named<'m, 'a>(
     alloc: Global,
     schema: &ValidatorSchema,
-    counted: &Map<EntityUID, Counted<'a>>,
+    counted: &'m Map<EntityUID, Counted<'a>>,
     place: usize,
     uid: &EntityUID,
-) -> Out<Counted<'a>, RequestFault>
+) -> Out<&'m Counted<'a>, RequestFault>
     requires { AreCounted schema.now counted.now }
-    ensures action { Says (λ found. action_of found.action.now) result
+    ensures action { Says (λ found. action_of found.now.action.now) result
         (action_check (schema_in schema.now) place (uid_in uid.now)) }
-    ensures before { IfOk result (λ found. found.before
+    ensures before { IfOk result (λ found. found.now.before
         ≡ in_64_bits (size_before (map action_in (action_types schema.now)) (uid_in uid.now))) }
+    ensures places { IfOk result (λ found. HasPlaces found.now) }
 {
-    match counted.get(uid) {
-        Some(found) => Ok(*found),
-        None => {
-            let uid = uid.dup(alloc)?;
-            refuse(RequestFault::UnknownAction {
-                at: place as u64,
-                uid,
-            })
-        }
-    }
+    let Some(found) = counted.get(uid) else {
+        let uid = uid.dup(alloc)?;
+        return refuse(RequestFault::UnknownAction {
+            at: place as u64,
+            uid,
+        });
+    };
+    Ok(found)
 }
 
 /// Refuses an entity that the schema doesn't know.

@@ -1,5 +1,5 @@
 -- SPDX-License-Identifier: Apache-2.0
-use Rattle.std.proofs.Common.{refl, ap, ◌∙◌, ◌+◌, subst}
+use Rattle.std.proofs.Common.{ap, ◌∙◌, ◌+◌, subst}
 use Rattle.cedar_data.specs.Maps.{IsSortedMap}
 use Rattle.cedar_resolved.specs.Schemas.{uid_cmp}
 use Rattle.cedar_request.proofs.Counting.{CountsOn-next, CountsOn-sorted}
@@ -13,5 +13,5 @@ push_last-requires c =
 
 pub loop-name-preserved : goal.loop-name-preserved
 loop-name-preserved c =
-    CountsOn-next _ c.loop-name.invariant c.in-Some.ensures.steps c.in_ok-push_last.ensures.ok c.in_ok-name.ensures refl refl
-    (c.saturating_add-before.ensures ∙ ap (λ n. in_64_bits (c.loop-name.before + n)) c.count_of.ensures)
+    CountsOn-next _ c.loop-name.invariant c.in-Some.ensures.steps c.in_ok-push_last.ensures.ok c.in_ok-name.ensures c.in_ok-here.ensures.action c.in_ok-here.ensures.before
+    (c.saturating_add-before.ensures ∙ ap (λ n. in_64_bits (c.loop-name.before + n)) c.count_of.ensures) c.in_ok-here.ensures.places
