@@ -5,6 +5,9 @@ pub mod Needs
 pub mod Choices
 pub mod Each
 pub mod Found
+pub mod Standing
+pub mod KeptLaws
+pub mod Keeping
 pub mod TypeLoops
 pub mod CheckLaws
 pub mod WideningLaws

@@ -1,6 +1,6 @@
 -- SPDX-License-Identifier: Apache-2.0
 -- A loop that checks the entity types of a schema in the order of their names, over the names and the types side by side.
-use Rattle.std.proofs.Common.{◌≡◌, ◌⊎◌, inl, inr, List, [], ◌∷◌, map, refl, sym, ap, ◌∙◌}
+use Rattle.std.proofs.Common.{◌≡◌, ◌⊎◌, inl, inr, List, [], ◌∷◌, map, refl, sym, ap, ◌∙◌, subst}
 use Rattle.std.specs.Map.{keys_of, values_of}
 use Rattle.std.specs.declared.result.Result.TheVariants.{Ok, Err}
 use Rattle.cedar_data.specs.Answers.{and_then}
@@ -17,6 +17,8 @@ use Rattle.cedar_compat.specs.BreakChecks.{each, schema_check, type_stays_check}
 use Rattle.cedar_compat.specs.Changes.{TypeBreak, type_break}
 use Rattle.cedar_compat.specs.Checks.{CheckOf, Tells, of_type}
 use Rattle.cedar_compat.specs.declared.fault.CompatFault.{CompatFault}
+use Rattle.cedar_compat.specs.KeptNames.{KeepsDescendant, KeepsNames}
+use Rattle.cedar_compat.proofs.Standing.{StandsIn, StandsIn-here, StandsIn-next, StandsIn-start, some-weaker}
 use Rattle.cedar_compat.proofs.Told.{Tells-at, Tells-refused}
 
 abbrev pub Entry : Type 0
@@ -53,10 +55,11 @@ module _ (R : Schema) where
     pub names_left : keys_of left ≡ names
     pub types_left : values_of left ≡ tys
     pub is : schema_check (schema_in S) R ≡ all_check left
+    pub stays : StandsIn (types S) left
 
   pub PassesTypes-start : (S : ValidatorSchema) (names : List EntityType) (tys : List ValidatorEntityType) → names ≡ keys_of (types S) → tys ≡ values_of (types S) → PassesTypes S names tys
   unfolding schema_check
-  PassesTypes-start S names tys keys values = record { left = types S; names_left = sym keys; types_left = sym values; is = refl }
+  PassesTypes-start S names tys keys values = record { left = types S; names_left = sym keys; types_left = sym values; is = refl; stays = StandsIn-start (types S) (types S) refl }
 
   -- the names and the types that are left are those of one entry and the others
   abbrev Split : List Entry → EntityType → ValidatorEntityType → List EntityType → List ValidatorEntityType → Type 0
@@ -77,7 +80,7 @@ module _ (R : Schema) where
   pub PassesTypes-next : {S : ValidatorSchema} {names rest : List EntityType} {tys others : List ValidatorEntityType} {name : EntityType} {ty : ValidatorEntityType} → PassesTypes S names tys → names ≡ name ∷ rest → tys ≡ ty ∷ others → entry_check name ty ≡ Ok tt → PassesTypes S rest others
   PassesTypes-next sofar keys values passes =
       let at = split sofar.left (sofar.names_left ∙ keys) (sofar.types_left ∙ values) in
-      record { left = at.0; names_left = at.2; types_left = at.3; is = sofar.is ∙ ap all_check at.1 ∙ ap (λ c. and_then c (λ _. all_check at.0)) passes }
+      record { left = at.0; names_left = at.2; types_left = at.3; is = sofar.is ∙ ap all_check at.1 ∙ ap (λ c. and_then c (λ _. all_check at.0)) passes; stays = StandsIn-next sofar.stays at.1 }
 
   -- where either side has nothing left
   pub PassesTypes-end : {S : ValidatorSchema} {names : List EntityType} {tys : List ValidatorEntityType} → PassesTypes S names tys → ((u : List EntityType) × ((names ≡ []) × (u ≡ []))) ⊎ ((u : List ValidatorEntityType) × ((tys ≡ []) × (u ≡ []))) → schema_check (schema_in S) R ≡ Ok tt
@@ -88,5 +91,11 @@ module _ (R : Schema) where
   PassesTypes-refused {name = name} {ty = ty} x sofar keys values told =
       let at = split sofar.left (sofar.names_left ∙ keys) (sofar.types_left ∙ values) in
       Tells-at type_break (Err x) (sofar.is ∙ ap all_check at.1) (Tells-refused type_break x (entry_check name ty) (λ _. all_check at.0) told)
+
+  -- a fault of the entity type that comes next keeps names of the schema
+  pub PassesTypes-kept : {S : ValidatorSchema} {names rest : List EntityType} {tys others : List ValidatorEntityType} {name : EntityType} {ty : ValidatorEntityType} (fault : CompatFault) → PassesTypes S names tys → names ≡ name ∷ rest → tys ≡ ty ∷ others → fault.ty ≡ name → KeepsDescendant ty fault.kind → KeepsNames S fault
+  PassesTypes-kept {S = S} {name = name} {ty = ty} fault sofar keys values same keeps =
+      let at = split sofar.left (sofar.names_left ∙ keys) (sofar.types_left ∙ values) in
+      some-weaker (types S) (λ e is. (same ∙ ap (λ x. x.0) is, subst (λ x. KeepsDescendant x.1 fault.kind) is keeps)) (StandsIn-here sofar.stays at.1)
 
 pub ruleset each_type_stays = (PassesTypes-start, PassesTypes-next, PassesTypes-end, PassesTypes-refused)

@@ -8,4 +8,5 @@ pub mod Choices
 pub mod Compatible
 pub mod FaultPlaces
 pub mod FaultTexts
+pub mod KeptNames
 pub mod Widening

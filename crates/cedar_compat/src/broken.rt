@@ -3,6 +3,7 @@ ghost use Rattle.std.specs.Prelude.{◌≡◌, [], ◌∷◌, Ok, Err, IfOk};
 ghost use Rattle.cedar_data.specs.Answers.{IfRefused};
 ghost use Rattle.cedar_data.specs.declared.memory.Failure.TheVariants.{Refused};
 ghost use Rattle.cedar_compat.specs.Checks.{IsBehind, IsOfType};
+ghost use Rattle.cedar_compat.specs.KeptNames.{KeepsOf};
 
 use crate::fault::CompatFault;
 use crate::kind::CompatKind;
@@ -69,6 +70,7 @@ pub(crate) fn under(alloc: Global, key: &str, read: Out<(), Broken>) -> Out<(), 
 pub(crate) fn of_type(alloc: Global, ty: &EntityType, read: Out<(), Broken>) -> Out<(), CompatFault>
     ensures ok { IfOk result (λ u. read ≡ Ok u) }
     ensures refused { IfRefused result (IsOfType ty.now read) }
+    ensures kept { IfRefused result (KeepsOf ty.now read) }
 {
     match read {
         Ok(()) => Ok(()),

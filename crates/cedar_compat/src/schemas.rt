@@ -1,5 +1,5 @@
 // SPDX-License-Identifier: Apache-2.0
-ghost use Rattle.std.specs.Prelude.{Some, IfOk};
+ghost use Rattle.std.specs.Prelude.{◌≡◌, Some, IfOk};
 ghost use Rattle.cedar_data.specs.Answers.{IfRefused};
 ghost use Rattle.cedar_names.specs.Names.{entity_words};
 ghost use Rattle.cedar_checks.specs.SchemaViews.{entity_of, schema_in};
@@ -7,6 +7,8 @@ ghost use Rattle.cedar_compat.specs.BreakChecks.{descendant_check, each, found_c
 ghost use Rattle.cedar_compat.specs.Changes.{break_of, type_break};
 ghost use Rattle.cedar_compat.specs.Checks.{Tells};
 ghost use Rattle.cedar_compat.specs.Compatible.{Compatible};
+ghost use Rattle.cedar_compat.specs.KeptNames.{KeepsDescendant, KeepsNames};
+ghost use Rattle.cedar_compat.specs.declared.kind.CompatKind.TheVariants.{DescendantRemoved};
 
 use crate::broken::{Broken, of_type, refuse};
 use crate::fault::CompatFault;
@@ -20,8 +22,9 @@ use std::alloc::Global;
 /// Refuses an entity type from which the one of this name doesn't descend.
 #[tactic(auto, using(crate::proofs::Found::found))]
 fn check_descendant(alloc: Global, name: &EntityType, new: &ValidatorEntityType) -> Out<(), Broken>
-    ensures { Tells break_of result
+    ensures told { Tells break_of result
         (descendant_check (entity_of new.now) (entity_words name.now)) }
+    ensures kept { IfRefused result (λ broken. broken.kind ≡ DescendantRemoved name.now) }
 {
     if new.has_descendant_entity_type(name) {
         return Ok(());
@@ -37,8 +40,9 @@ fn check_descendants(
     old: &ValidatorEntityType,
     new: &ValidatorEntityType,
 ) -> Out<(), Broken>
-    ensures { Tells break_of result
+    ensures told { Tells break_of result
         (each (descendant_check (entity_of new.now)) (entity_of old.now).descendants) }
+    ensures kept { IfRefused result (λ broken. KeepsDescendant old.now broken.kind) }
 {
     for name in old.descendants.iter() {
         check_descendant(alloc, name, new)?;
@@ -52,7 +56,9 @@ fn check_found(
     old: &ValidatorEntityType,
     found: &ValidatorEntityType,
 ) -> Out<(), Broken>
-    ensures { Tells break_of result (found_check (entity_of old.now) (Some (entity_of found.now))) }
+    ensures told { Tells break_of result
+        (found_check (entity_of old.now) (Some (entity_of found.now))) }
+    ensures kept { IfRefused result (λ broken. KeepsDescendant old.now broken.kind) }
 {
     check_kind(alloc, old, found)?;
     check_descendants(alloc, old, found)
@@ -66,8 +72,9 @@ fn check_type_stays(
     old: &ValidatorEntityType,
     new: &ValidatorSchema,
 ) -> Out<(), Broken>
-    ensures { Tells break_of result
+    ensures told { Tells break_of result
         (type_stays_check (schema_in new.now) (entity_words name.now) (entity_of old.now)) }
+    ensures kept { IfRefused result (λ broken. KeepsDescendant old.now broken.kind) }
 {
     match new.get_entity_type(name) {
         Some(found) => check_found(alloc, old, found),
@@ -78,7 +85,8 @@ fn check_type_stays(
 /// Refuses a new schema that takes something away from an entity type of the old one.
 #[tactic(auto, using(crate::proofs::Told::told, crate::proofs::TypeLoops::each_type_stays))]
 fn check_types(alloc: Global, old: &ValidatorSchema, new: &ValidatorSchema) -> Out<(), CompatFault>
-    ensures { Tells type_break result (schema_check (schema_in old.now) (schema_in new.now)) }
+    ensures told { Tells type_break result (schema_check (schema_in old.now) (schema_in new.now)) }
+    ensures kept { IfRefused result (KeepsNames old.now) }
 {
     for (name, ty) in old.entity_type_names().zip(old.entity_types()) {
         of_type(alloc, name, check_type_stays(alloc, name, ty, new))?;
@@ -100,6 +108,7 @@ pub fn compatible(
     ensures fits { IfOk result (λ _. Compatible (schema_in old.now) (schema_in new.now)) }
     ensures unfit { IfRefused result (λ _. Compatible (schema_in old.now) (schema_in new.now)
         → ⊥) }
+    ensures kept { IfRefused result (KeepsNames old.now) }
 {
     check_types(alloc, old, new)
 }

@@ -6,6 +6,7 @@ ghost use Rattle.cedar_compat.specs.BreakChecks.{schema_check};
 ghost use Rattle.cedar_compat.specs.Changes.{type_break};
 ghost use Rattle.cedar_compat.specs.Checks.{Tells};
 ghost use Rattle.cedar_compat.specs.Compatible.{Compatible};
+ghost use Rattle.cedar_compat.specs.KeptNames.{KeepsNames};
 ghost use Rattle.cedar_compat_laws.specs.NamesDiffer.{AllNamesDiffer};
 ghost use Rattle.cedar_conform.specs.Entities.{AreEntities};
 ghost use Rattle.cedar_compat.specs.of_checks.SchemaViews.{schema_in};
@@ -36,6 +37,7 @@ pub fn compatible_with_data(
     ensures fits { IfOk result (λ _. Compatible (schema_in old.now) (schema_in new.now)) }
     ensures unfit { IfRefused result (λ _. Compatible (schema_in old.now) (schema_in new.now)
         → ⊥) }
+    ensures kept { IfRefused result (KeepsNames old.now) }
     ensures data { IfOk result (λ _. (d : Data) → AreEntities (schema_in old.now) d
         → AreEntities (schema_in new.now) d) }
 {
