@@ -8,6 +8,7 @@ use Rattle.cedar_data.specs.Maps.{map_values}
 use Rattle.cedar_names.specs.Annotating.{annotation_entries}
 use Rattle.cedar_names.specs.declared.name.Name.{Name}
 use Rattle.cedar_merge.specs.Joining.{Holds, IsLeastOf, always, clash_error, clash_place, conflict_error, conflict_place, error_of, finished, last_some, look, there}
+use Rattle.cedar_merge.specs.KeptNames.{KeepsNamespace}
 use Rattle.cedar_merge.specs.Lookups.{Definition, Fragment, Path, Place, annotated, at, declared, declared_in, has_namespace, path_cmp, path_of, text_at}
 use Rattle.cedar_merge.specs.Merged.{IsClash, IsConflict, Merged, NoClash, NoConflict, NotePlace, StandsInOrder, differ, note_cmp, place_cmp, unlike}
 use Rattle.cedar_merge.specs.Pairs.{opposed, some_pair}
@@ -20,7 +21,7 @@ use Rattle.cedar_merge.specs.declared.joined.Joined.{Joined}
 use Rattle.cedar_merge.specs.declared.places.ClashPlace.{ClashPlace}
 use Rattle.cedar_merge.specs.declared.places.ConflictPlace.{ConflictPlace}
 use Rattle.cedar_merge.proofs.Namespaces.{look-map_values}
-use Rattle.cedar_merge.proofs.PairLaws.{last_any}
+use Rattle.cedar_merge.proofs.PairLaws.{both_there, last_any}
 use Rattle.cedar_merge.proofs.Texts.{alike}
 
 -- ---- pairs of a list, and pairs of what is seen of its items
@@ -41,11 +42,6 @@ pairs-same : {A : Type 0} (against other : A → A → Bool) → ((x y : A) → 
 pairs-same against other same [] = refl
 pairs-same against other same (x ∷ xs) = λ i. any-same (against x) (other x) (same x) xs i || pairs-same against other same xs i
 
-both_there : {A : Type 0} (o p : Option A) → opposed always o p ≡ (is_some o && is_some p)
-both_there None p = refl
-both_there (Some a) None = refl
-both_there (Some a) (Some b) = refl
-
 clashing : (L : List Fragment) (p : Place) → some_pair (opposed always) (map (declared p) L) ≡ some_pair (λ f g. is_some (declared p f) && is_some (declared p g)) L
 clashing L p = pairs-map (opposed always) (declared p) L ∙ pairs-same _ _ (λ f g. both_there (declared p f) (declared p g)) L
 
@@ -57,6 +53,11 @@ conflicting L p = pairs-map differ (annotated (Some p.namespace) p.key) L
 never : (b : Bool) → b ≡ false → IsTrue b → ⊥
 never true p q = cc
 never false p q = cc
+
+-- what an error keeps, where there is one
+abbrev KeptBy : List Fragment → Option MergeError → Type 0
+KeptBy L None = Unit {0}
+KeptBy L (Some e) = KeepsNamespace L e
 
 -- what an error tells, where there is one
 abbrev Told : List Fragment → Option MergeError → Type 0
@@ -101,6 +102,15 @@ module _ (L : List Fragment) (all : List (Option Name × Joined)) (found : Found
 
   pub tells_conflict : (o : Option MergeError) (e : MergeError) → o ≡ error_of found → o ≡ Some e → TellsConflict L e
   tells_conflict o e told some = (by_error found.clash found.conflict refl refl e (sym told ∙ some)).1
+
+  kept_by : (clash : Option ClashPlace) (conflict : Option ConflictPlace) → found.clash ≡ clash → found.conflict ≡ conflict → (e : MergeError) → option_or (option_map clash_error clash) (option_map conflict_error conflict) ≡ Some e
+      → KeepsNamespace L e
+  kept_by (Some place) conflict is q e told = subst (λ o. KeptBy L o) told (h.kept_clash place is)
+  kept_by None (Some place) is q e told = subst (λ o. KeptBy L o) told (h.kept_conflict place q)
+  kept_by None None is q e told = absurd (cc)
+
+  pub tells_kept : (o : Option MergeError) (e : MergeError) → o ≡ error_of found → o ≡ Some e → KeepsNamespace L e
+  tells_kept o e told some = kept_by found.clash found.conflict refl refl e (sym told ∙ some)
 
   -- where there is none, nothing was found
   nothing_found : (clash : Option ClashPlace) (conflict : Option ConflictPlace) → found.clash ≡ clash → found.conflict ≡ conflict → option_or (option_map clash_error clash) (option_map conflict_error conflict) ≡ None

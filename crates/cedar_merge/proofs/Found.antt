@@ -68,11 +68,11 @@ both : (a b : Bool) → a ≡ true → b ≡ true → (a && b) ≡ true
 both true b p q = q
 both false b p q = absurd (cc)
 
-first_of_both : (a b : Bool) → (a && b) ≡ true → a ≡ true
+pub first_of_both : (a b : Bool) → (a && b) ≡ true → a ≡ true
 first_of_both true b p = refl
 first_of_both false b p = absurd (cc)
 
-second_of_both : (a b : Bool) → (a && b) ≡ true → b ≡ true
+pub second_of_both : (a b : Bool) → (a && b) ≡ true → b ≡ true
 second_of_both true b p = p
 second_of_both false b p = absurd (cc)
 
@@ -108,7 +108,7 @@ module _ (path : Option Name) (kind : DeclKind) (test : List ℕ → Bool) where
       let ns : path_of path ≡ p.namespace = is_same paths_exact (path_of path) p.namespace (first_of_both _ _ is) in
       (λ i. ordering_then ((subst (λ w. path_cmp p.namespace w ≡ Equal) (sym ns) (tied paths_exact.total p.namespace)) i) (ordering_then (same_rank kind p.kind (second_of_both _ _ is) i) (word_cmp p.name name)))
 
-  least_told : (name : List ℕ) → IsLeastOf word_cmp test (Some name) → IsLeastOf place_cmp tested (Some (place_told kind path name))
+  pub least_told : (name : List ℕ) → IsLeastOf word_cmp test (Some name) → IsLeastOf place_cmp tested (Some (place_told kind path name))
   least_told name is = record {
     holds = here name is.holds;
     least = λ p passes l. is.least p.name (second_of_both _ _ passes) (sym (nearer p name (first_of_both _ _ passes)) ∙ l);
@@ -139,7 +139,7 @@ module _ (name : Name) (test : List ℕ → Bool) where
       let ns : name_words name ≡ p.namespace = is_same names_exact (name_words name) p.namespace is in
       (λ i. ordering_then ((subst (λ w. words_cmp p.namespace w ≡ Equal) (sym ns) (tied names_exact.total p.namespace)) i) (word_cmp p.key key))
 
-  least_noted : (key : List ℕ) → IsLeastOf word_cmp test (Some key) → IsLeastOf note_cmp tested_note (Some (record { namespace = name_words name; key = key }))
+  pub least_noted : (key : List ℕ) → IsLeastOf word_cmp test (Some key) → IsLeastOf note_cmp tested_note (Some (record { namespace = name_words name; key = key }))
   least_noted key is = record {
     holds = both _ _ (ap is_eq (tied names_exact.total (name_words name))) is.holds;
     least = λ p passes l. is.least p.key (second_of_both _ _ passes) (sym (nearer_note p key (first_of_both _ _ passes)) ∙ l);

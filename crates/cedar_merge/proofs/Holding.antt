@@ -1,22 +1,28 @@
 -- SPDX-License-Identifier: Apache-2.0
 -- What is held of fragments, as one namespace more of the last fragment is added.
-use Rattle.std.proofs.Common.{◌≡◌, ◌++◌, ◌||◌, ℕ, Bool, true, false, List, [], ◌∷◌, map, Option, Some, None, option_map, refl, sym, ap, ◌∙◌, subst, append_assoc}
+use Rattle.std.proofs.Common.{◌≡◌, ◌++◌, ◌||◌, ℕ, Bool, true, false, List, [], ◌∷◌, map, Option, Some, None, option_map, refl, sym, ap, ◌∙◌, subst, append_assoc, inl, inr, cond}
 use Rattle.std.proofs.lemmas.List.{append-nil}
-use Rattle.std.specs.Option.{option_and_then, option_cmp, option_or}
+use Rattle.std.specs.Option.{is_some, option_and_then, option_cmp, option_or}
+use Rattle.cedar_data.specs.Firsts.{SomePasses}
 use Rattle.cedar_data.specs.Maps.{IsSortedMap}
 use Rattle.cedar_names.specs.Annotating.{annotation_entries}
 use Rattle.cedar_names.specs.Names.{name_cmp}
 use Rattle.cedar_names.specs.declared.annotation.Annotations.{Annotations}
 use Rattle.cedar_names.specs.declared.name.Name.{Name}
-use Rattle.cedar_merge.specs.Joining.{AddsNamespace, Holds, IsLeastOf, always, clash_place, conflict_place, is_in, last_some, look, nothing, notes_under, said_of, there}
+use Rattle.cedar_merge.specs.Joining.{AddsNamespace, ClashesAt, ConflictsAt, Holds, IsLeastOf, Keeps, again, always, clash_error, clash_place, conflict_error, conflict_place, is_in, last_some, look, nothing, notes_under, otherwise, said_of, there}
+use Rattle.cedar_merge.specs.KeptNames.{KeepsNamespace}
 use Rattle.cedar_merge.specs.Lookups.{Declaration, Definition, Fragment, Path, Place, annotated, at, declared, declared_in, path_cmp, path_of, text_at}
 use Rattle.cedar_merge.specs.Merged.{NotePlace, differ, note_cmp, place_cmp, unlike}
 use Rattle.cedar_merge.specs.Pairs.{opposed, some_pair}
 use Rattle.cedar_merge.specs.declared.joined.Found.{Found}
 use Rattle.cedar_merge.specs.declared.joined.Joined.{Joined}
+use Rattle.cedar_merge.specs.declared.places.ClashPlace.{ClashPlace}
+use Rattle.cedar_merge.specs.declared.places.ConflictPlace.{ConflictPlace}
+use Rattle.cedar_merge.proofs.Found.{first_of_both, second_of_both}
+use Rattle.cedar_merge.proofs.Keeping.{keeps-grown, keeps-longer, pair-end, some-end, some-weaker}
 use Rattle.cedar_merge.proofs.Leasts.{least-same}
-use Rattle.cedar_merge.proofs.Namespaces.{last-grows, look-fresh, look-next, look-put, map-last, opposed-look, said}
-use Rattle.cedar_merge.proofs.PairLaws.{last_some-append, or-none, pair-grows, pair-none}
+use Rattle.cedar_merge.proofs.Namespaces.{last-grows, look-fresh, look-next, look-one, look-put, map-last, opposed-look, said}
+use Rattle.cedar_merge.proofs.PairLaws.{both_there, last_some-append, or-none, pair-grows, pair-none}
 use Rattle.cedar_merge.specs.TextLaws.{unlike_joins}
 
 -- a fragment of these namespaces
@@ -56,6 +62,27 @@ unnamed : (path : Option Name) (annotations : Annotations) → is_in path None �
 unnamed None annotations is = refl
 unnamed (Some n) annotations is = absurd (cc)
 
+not_some : {A : Type 0} {o : Option A} {x : A} → o ≡ None → o ≡ Some x → ⊥
+not_some {x = x} none some = let wrong : None ≡ Some x = sym none ∙ some in cc
+
+same_some : {A : Type 0} {o : Option A} {x y : A} → o ≡ Some x → o ≡ Some y → x ≡ y
+same_some {x = x} {y = y} p q = let both : Some x ≡ Some y = sym p ∙ q in cc
+
+-- what is opposed is there
+opposed_there : {A : Type 0} (against : A → A → Bool) (o p : Option A) → opposed against o p ≡ true → is_some p ≡ true
+opposed_there against None p is = absurd (cc)
+opposed_there against (Some a) None is = absurd (cc)
+opposed_there against (Some a) (Some b) is = refl
+
+-- what stands against the last that is there stands against one of them
+last_opposed : {A B : Type 0} (against : B → B → Bool) (q : A → Option B) (p : Option B) (xs : List A) → opposed against (last_some (map q xs)) p ≡ true → SomePasses (λ x. opposed against (q x) p ≡ true) xs
+last_opposed against q p [] is = absurd (cc)
+last_opposed {B = B} against q p (x ∷ xs) is = by (last_some (map q xs)) is (last_opposed against q p xs)
+  where
+    by : (o : Option B) → opposed against (option_or o (q x)) p ≡ true → (opposed against o p ≡ true → SomePasses (λ x. opposed against (q x) p ≡ true) xs) → SomePasses (λ x. opposed against (q x) p ≡ true) (x ∷ xs)
+    by None is later = inl is
+    by (Some b) is later = inr (later is)
+
 -- before the first fragment
 pub Holds-start : (all : List (Option Name × Joined)) (found : Found) → all ≡ [] → found.clash ≡ None → found.conflict ≡ None → Holds [] all found
 Holds-start all found none no_clash no_conflict = record {
@@ -65,6 +92,8 @@ Holds-start all found none no_clash no_conflict = record {
   unnamed = λ key. ap (λ es. look (λ j. text_at j.notes key) es None) none;
   clash = subst (λ o. IsLeastOf place_cmp (λ p. false) (option_map clash_place o)) (sym no_clash) (λ p. refl);
   conflict = subst (λ o. IsLeastOf note_cmp (λ p. false) (option_map conflict_place o)) (sym no_conflict) (λ p. refl);
+  kept_clash = λ p some. absurd (not_some no_clash some);
+  kept_conflict = λ p some. absurd (not_some no_conflict some);
 }
 
 module _ (L : List Fragment) where
@@ -83,6 +112,8 @@ module _ (L : List Fragment) where
     unnamed = h.unnamed;
     clash = least-same place_cmp _ _ (λ p. pairs_empty always (declared p) refl) (option_map clash_place found.clash) h.clash;
     conflict = least-same note_cmp _ _ (λ p. pairs_empty unlike (annotated (Some p.namespace) p.key) refl) (option_map conflict_place found.conflict) h.conflict;
+    kept_clash = λ p some. keeps-longer L (fragment_of []) (clash_error p) (h.kept_clash p some);
+    kept_conflict = λ p some. keeps-longer L (fragment_of []) (conflict_error p) (h.kept_conflict p some);
   }
 
 module _ (L : List Fragment) (done rest : List (Option Name × Definition)) (path : Option Name) (d : Definition) (sorted : IsSortedMap (option_cmp name_cmp) (done ++ (path, d) ∷ rest)) where
@@ -110,6 +141,15 @@ module _ (L : List Fragment) (done rest : List (Option Name × Definition)) (pat
         (λ i. some_pair (opposed against) (map-last q L had i) || opposed against ((is ∙ ap last_some (map-last q L had)) i) (q own))
         ∙ sym (pair-grows against joins (map q L) (q had) (q own) (look-fresh part done (path, d) rest sorted ns))
         ∙ sym (ap (some_pair (opposed against)) (map-last q L has ∙ ap (λ o. map q L ++ o ∷ []) (look-next part done (path, d) rest sorted ns)))
+
+    -- what stands against what this one says, an earlier fragment says
+    earlier : (against : A → A → Bool) (was : Option A) → is_in path ns ≡ true → was ≡ last_some (map q (L ++ had ∷ [])) → opposed against was (part d) ≡ true → SomePasses (λ f. opposed against (q f) (part d) ≡ true) L
+    earlier against was at_path is passes =
+        let own_is : q own ≡ part d = look-one part path d ns ∙ ap (λ b. option_and_then part (cond b (Some d) None)) at_path in
+        let none : q had ≡ None = look-fresh part done (path, d) rest sorted ns (ap is_some own_is ∙ opposed_there against was (part d) passes) in
+        let alone : was ≡ last_some (map q L)
+        = is ∙ ap last_some (map-last q L had) ∙ last_some-append (map q L) (q had) ∙ ap (λ o. option_or o (last_some (map q L))) none in
+        last_opposed against q (part d) L (ap (λ o. opposed against o (part d)) (sym alone) ∙ passes)
 
   module _ {all now : List (Option Name × Joined)} {found finds : Found} (h : Holds (L ++ had ∷ []) all found) (adds : AddsNamespace path d all found now finds) where
     abbrev before : Joined
@@ -142,6 +182,39 @@ module _ (L : List Fragment) (done rest : List (Option Name × Definition)) (pat
         ∙ or-none (look no_text ((path, d) ∷ []) None)
         ∙ no_text_there (at path_cmp path_of ((path, d) ∷ []) None)
 
+    new_clash : (r : ClashPlace) → ClashesAt path (again path before.definition d) r → KeepsNamespace (L ++ has ∷ []) (clash_error r)
+    new_clash r (same, passes) =
+        let p : Place = clash_place r in
+        let was : declared_in r.kind r.name before.definition ≡ look (λ j. declared_in r.kind r.name j.definition) all p.namespace
+        = declared_before p ∙ ap (λ n. look (λ j. declared_in r.kind r.name j.definition) all (path_of n)) (sym same) in
+        let some = earlier (declared_in r.kind r.name) p.namespace always _ (first_of_both _ _ passes) (was ∙ h.declarations p) (second_of_both _ _ passes) in
+        pair-end _ L has (some-weaker L (λ f is. some-end _ done (path, d) (same, sym (both_there (declared p f) (declared_in r.kind r.name d)) ∙ is)) some)
+
+    new_conflict : (r : ConflictPlace) → ConflictsAt path (otherwise path before.notes d.annotations) r → KeepsNamespace (L ++ has ∷ []) (conflict_error r)
+    new_conflict r (same, passes) =
+        let p : NotePlace = conflict_place r in
+        let at_path : is_in path (Some p.namespace) ≡ true = first_of_both _ _ passes in
+        let was : text_at before.notes p.key ≡ look (λ j. text_at j.notes p.key) all (Some p.namespace)
+        = noted_before p.key ∙ ap (λ n. look (λ j. text_at j.notes p.key) all (path_of n)) (sym same) in
+        let differs : differ (text_at before.notes p.key) (own_text p.key d) ≡ true
+        = ap (λ t. differ (text_at before.notes p.key) t) (sym (own_notes p at_path)) ∙ second_of_both _ _ passes in
+        let some = earlier (own_text p.key) (Some p.namespace) unlike _ at_path (was ∙ h.notes p) differs in
+        pair-end _ L has (some-weaker L (λ f is. some-end _ done (path, d) (same, is)) some)
+
+    kept_clash : (p : ClashPlace) → finds.clash ≡ Some p → KeepsNamespace (L ++ has ∷ []) (clash_error p)
+    kept_clash p some = by adds.kept_clash
+      where
+        by : Keeps (ClashesAt path (again path before.definition d)) found.clash finds.clash → KeepsNamespace (L ++ has ∷ []) (clash_error p)
+        by (inl is) = keeps-grown L done (path, d) (clash_error p) (h.kept_clash p (sym is ∙ some))
+        by (inr (r, is, new)) = subst (λ x. KeepsNamespace (L ++ has ∷ []) (clash_error x)) (same_some is some) (new_clash r new)
+
+    kept_conflict : (p : ConflictPlace) → finds.conflict ≡ Some p → KeepsNamespace (L ++ has ∷ []) (conflict_error p)
+    kept_conflict p some = by adds.kept_conflict
+      where
+        by : Keeps (ConflictsAt path (otherwise path before.notes d.annotations)) found.conflict finds.conflict → KeepsNamespace (L ++ has ∷ []) (conflict_error p)
+        by (inl is) = keeps-grown L done (path, d) (conflict_error p) (h.kept_conflict p (sym is ∙ some))
+        by (inr (r, is, new)) = subst (λ x. KeepsNamespace (L ++ has ∷ []) (conflict_error x)) (same_some is some) (new_conflict r new)
+
     -- one namespace more
     pub Holds-next : Holds (L ++ has ∷ []) now finds
     Holds-next = record {
@@ -163,6 +236,8 @@ module _ (L : List Fragment) (done rest : List (Option Name × Definition)) (pat
           ∙ pairs_more (own_text p.key) (Some p.namespace) unlike unlike_joins _ (h.notes p))
           (option_map conflict_place finds.conflict)
           (adds.conflict.finds (λ p. some_pair differ (map (annotated (Some p.namespace) p.key) (L ++ had ∷ []))) h.conflict);
+      kept_clash = kept_clash;
+      kept_conflict = kept_conflict;
     }
 
 -- a loop over `whole` that has `left` before it has added what is before that

@@ -2,6 +2,7 @@
 pub mod Answering
 pub mod Found
 pub mod Holding
+pub mod Keeping
 pub mod Leasts
 pub mod Moves
 pub mod Namespaces

@@ -1,10 +1,10 @@
 -- SPDX-License-Identifier: Apache-2.0
 -- What two of a list have against each other, as the list grows.
-use Rattle.std.proofs.Common.{◌≡◌, ◌||◌, ◌++◌, Bool, true, false, List, [], ◌∷◌, Option, Some, None, refl, sym, ap, ◌∙◌}
+use Rattle.std.proofs.Common.{◌≡◌, ◌||◌, ◌&&◌, ◌++◌, Bool, true, false, List, [], ◌∷◌, Option, Some, None, refl, sym, ap, ◌∙◌}
 use Rattle.std.proofs.lemmas.List.Folds.{list_any-append}
 use Rattle.std.specs.List.{list_any}
-use Rattle.std.specs.Option.{option_or}
-use Rattle.cedar_merge.specs.Joining.{last_some}
+use Rattle.std.specs.Option.{is_some, option_or}
+use Rattle.cedar_merge.specs.Joining.{always, last_some}
 use Rattle.cedar_merge.specs.Pairs.{opposed, some_pair}
 
 or-false : (a : Bool) → (a || false) ≡ a
@@ -20,6 +20,12 @@ or-turn : (a b c : Bool) → (a || (b || c)) ≡ (b || (a || c))
 or-turn true true c = refl
 or-turn true false c = refl
 or-turn false b c = refl
+
+-- declarations are opposed where both are there
+pub both_there : {A : Type 0} (o p : Option A) → opposed always o p ≡ (is_some o && is_some p)
+both_there None p = refl
+both_there (Some a) None = refl
+both_there (Some a) (Some b) = refl
 
 module _ {A : Type 0} where
   pub or-none : (o : Option A) → option_or o None ≡ o

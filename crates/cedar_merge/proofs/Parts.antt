@@ -66,16 +66,16 @@ only_third true x y z = refl
 only_third false x y z = refl
 
 module _ (path : Option Name) (before more : Definition) where
-  abbrev commons : Place → Bool
+  abbrev pub commons : Place → Bool
   commons p = is_place_of path Common p && opposed always (at_word common_word before.common_types p.name) (at_word common_word more.common_types p.name)
 
-  abbrev entities : Place → Bool
+  abbrev pub entities : Place → Bool
   entities p = is_place_of path Entity p && opposed always (at_word unreserved_word before.entity_types p.name) (at_word unreserved_word more.entity_types p.name)
 
-  abbrev actions : Place → Bool
+  abbrev pub actions : Place → Bool
   actions p = is_place_of path Action p && opposed always (at_word (λ id. id) before.actions p.name) (at_word (λ id. id) more.actions p.name)
 
-  any_kind : (p : Place) → ((commons p || entities p) || actions p) ≡ again path before more p
+  pub any_kind : (p : Place) → ((commons p || entities p) || actions p) ≡ again path before more p
   any_kind p = by p.kind
     where
       a : Bool
@@ -112,12 +112,18 @@ adds_notes before now more annotations are values key =
     ap (option_map _) (values key) ∙ map-or _ (at_word any_word more key) (at_word any_word before key)
     ∙ ap (λ a. option_or (text_at (annotation_entries a) key) (text_at before key)) are
 
+-- an annotation stands against another where its text does
+pub same_note : (name : Name) (before more : List (AnyId × Annotation)) (annotations : Annotations) → annotations_with more ≡ annotations → (x : NotePlace)
+    → tested_note name (λ key. opposed texts_differ (at_word any_word before key) (at_word any_word more key)) x ≡ otherwise (Some name) before annotations x
+same_note name before more annotations are x =
+    ap (λ b. is_in (Some name) (Some x.namespace) && b) (differ-map (at_word any_word before x.key) (at_word any_word more x.key) ∙ ap (λ a. differ (text_at before x.key) (text_at (annotation_entries a) x.key)) are)
+
 -- what is found among them
 pub finds_notes : (name : Name) (before more : List (AnyId × Annotation)) (annotations : Annotations) → annotations_with more ≡ annotations → (o p : Option NotePlace)
     → Finds note_cmp (tested_note name (λ key. opposed texts_differ (at_word any_word before key) (at_word any_word more key))) o p → Finds note_cmp (otherwise (Some name) before annotations) o p
 finds_notes name before more annotations are o p f =
     finds-same note_cmp (tested_note name (λ key. opposed texts_differ (at_word any_word before key) (at_word any_word more key))) (otherwise (Some name) before annotations)
-    (λ x. ap (λ b. is_in (Some name) (Some x.namespace) && b) (differ-map (at_word any_word before x.key) (at_word any_word more x.key) ∙ ap (λ a. differ (text_at before x.key) (text_at (annotation_entries a) x.key)) are)) o p f
+    (same_note name before more annotations are) o p f
 
 -- where a namespace has no name, nothing is added
 pub none_noted : (path : Option Name) (before : List (AnyId × Annotation)) (annotations : Annotations) → path ≡ None → (key : List ℕ) → text_at before key ≡ option_or (text_at (notes_under path annotations) key) (text_at before key)

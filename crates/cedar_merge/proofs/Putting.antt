@@ -6,7 +6,7 @@ use Rattle.std.specs.Option.{option_cmp, unwrap_or}
 use Rattle.cedar_data.specs.Maps.{get}
 use Rattle.cedar_names.specs.Names.{name_cmp}
 use Rattle.cedar_names.specs.declared.name.Name.{Name}
-use Rattle.cedar_merge.specs.Joining.{AddsNamespace, Finds, Joins, again, clash_place, conflict_place, is_in, nothing, otherwise, said_of}
+use Rattle.cedar_merge.specs.Joining.{AddsNamespace, ClashesAt, ConflictsAt, Finds, Joins, Keeps, again, clash_place, conflict_place, is_in, nothing, otherwise, said_of}
 use Rattle.cedar_merge.specs.Lookups.{Definition, Path, at, path_cmp, path_of}
 use Rattle.cedar_merge.specs.Merged.{note_cmp, place_cmp}
 use Rattle.cedar_merge.specs.declared.joined.Found.{Found}
@@ -36,9 +36,10 @@ pub adds_namespace : (path : Option Name) (d : Definition) (before mid now : Lis
     → Joins path start d joined
     → Finds place_cmp (again path start.definition d) (option_map clash_place found.clash) (option_map clash_place finds.clash)
     → Finds note_cmp (otherwise path start.notes d.annotations) (option_map conflict_place found.conflict) (option_map conflict_place finds.conflict)
+    → Keeps (ClashesAt path (again path start.definition d)) found.clash finds.clash → Keeps (ConflictsAt path (otherwise path start.notes d.annotations)) found.conflict finds.conflict
     → now ≡ insert_entry (option_cmp name_cmp) mid path joined
     → AddsNamespace path d before found now finds
-adds_namespace path d before mid now found finds start joined said left joins clash conflict puts = record {
+adds_namespace path d before mid now found finds start joined said left joins clash conflict kept_clash kept_conflict puts = record {
   joined = joined;
   put = λ ns.
       ap (λ es. at path_cmp path_of es ns) puts ∙ at-insert paths_exact path_of by_path mid path joined ns
@@ -47,4 +48,6 @@ adds_namespace path d before mid now found finds start joined said left joins cl
   joins = subst (λ j. Joins path j d joined) said joins;
   clash = subst (λ j. Finds place_cmp (again path j.definition d) (option_map clash_place found.clash) (option_map clash_place finds.clash)) said clash;
   conflict = subst (λ j. Finds note_cmp (otherwise path j.notes d.annotations) (option_map conflict_place found.conflict) (option_map conflict_place finds.conflict)) said conflict;
+  kept_clash = subst (λ j. Keeps (ClashesAt path (again path j.definition d)) found.clash finds.clash) said kept_clash;
+  kept_conflict = subst (λ j. Keeps (ConflictsAt path (otherwise path j.notes d.annotations)) found.conflict finds.conflict) said kept_conflict;
 }

@@ -1,6 +1,6 @@
 -- SPDX-License-Identifier: Apache-2.0
 -- What is held of fragments while they are merged, one after another.
-use Rattle.std.specs.Prelude.{◌≡◌, ◌||◌, ◌&&◌, ℕ, Bool, true, false, cond, List, [], ◌∷◌, Option, Some, None, IsTrue, map, option_map, unwrap_or}
+use Rattle.std.specs.Prelude.{◌≡◌, ◌⊎◌, ◌||◌, ◌&&◌, ℕ, Bool, true, false, cond, List, [], ◌∷◌, Option, Some, None, IsTrue, map, option_map, unwrap_or}
 use Rattle.std.specs.BTreeMap.{is_at}
 use Rattle.std.specs.Option.{option_and_then, option_or}
 use Rattle.std.specs.Ordering.{match_ordering, is_eq, nat_cmp}
@@ -11,6 +11,7 @@ use Rattle.cedar_names.specs.declared.annotation.Annotation.{Annotation}
 use Rattle.cedar_names.specs.declared.annotation.Annotations.{Annotations}
 use Rattle.cedar_names.specs.declared.any_id.AnyId.{AnyId}
 use Rattle.cedar_names.specs.declared.name.Name.{Name}
+use Rattle.cedar_merge.specs.KeptNames.{KeepsNamespace}
 use Rattle.cedar_merge.specs.Lookups.{Definition, Fragment, Path, Place, annotated, at, declared, declared_in, path_cmp, path_of, text_at}
 use Rattle.cedar_merge.specs.Merged.{NotePlace, differ, note_cmp, place_cmp, rank, unlike}
 use Rattle.cedar_merge.specs.Pairs.{opposed, some_pair}
@@ -50,6 +51,17 @@ clash_place p = place_told p.kind p.namespace p.name
 
 abbrev pub conflict_place : ConflictPlace → NotePlace
 conflict_place p = note_told p.namespace p.key
+
+-- what is kept was kept before, or it is new
+abbrev pub Keeps : {P : Type 0} → (P → Type 0) → Option P → Option P → Type 0
+Keeps {P} IsNew before now = (now ≡ before) ⊎ ((p : P) × (now ≡ Some p) × IsNew p)
+
+-- a place under this very name, which passes the test
+abbrev pub ClashesAt : Option Name → (Place → Bool) → ClashPlace → Type 0
+ClashesAt path test p = (p.namespace ≡ path) × IsTrue (test (clash_place p))
+
+abbrev pub ConflictsAt : Option Name → (NotePlace → Bool) → ConflictPlace → Type 0
+ConflictsAt path test p = (Some p.namespace ≡ path) × IsTrue (test (conflict_place p))
 
 -- the errors that tell them
 abbrev pub clash_error : ClashPlace → MergeError
@@ -141,6 +153,8 @@ pub record Holds (L : List Fragment) (all : List (Option Name × Joined)) (found
   pub unnamed : (key : List ℕ) → look (λ j. text_at j.notes key) all None ≡ None
   pub clash : IsLeastOf place_cmp (λ p. some_pair (opposed always) (map (declared p) L)) (option_map clash_place found.clash)
   pub conflict : IsLeastOf note_cmp (λ p. some_pair differ (map (annotated (Some p.namespace) p.key) L)) (option_map conflict_place found.conflict)
+  pub kept_clash : (p : ClashPlace) → found.clash ≡ Some p → KeepsNamespace L (clash_error p)
+  pub kept_conflict : (p : ConflictPlace) → found.conflict ≡ Some p → KeepsNamespace L (conflict_error p)
 
 -- what was said of a namespace
 abbrev pub said_of : List (Option Name × Joined) → Path → Joined
@@ -153,6 +167,8 @@ pub record AddsNamespace (path : Option Name) (d : Definition) (before : List (O
   pub joins : Joins path (said_of before (path_of path)) d joined
   pub clash : Finds place_cmp (again path (said_of before (path_of path)).definition d) (option_map clash_place found.clash) (option_map clash_place finds.clash)
   pub conflict : Finds note_cmp (otherwise path (said_of before (path_of path)).notes d.annotations) (option_map conflict_place found.conflict) (option_map conflict_place finds.conflict)
+  pub kept_clash : Keeps (ClashesAt path (again path (said_of before (path_of path)).definition d)) found.clash finds.clash
+  pub kept_conflict : Keeps (ConflictsAt path (otherwise path (said_of before (path_of path)).notes d.annotations)) found.conflict finds.conflict
 
 -- the error of what was found: of the clash, or else of the conflict
 abbrev pub error_of : Found → Option MergeError

@@ -1,6 +1,7 @@
 -- SPDX-License-Identifier: Apache-2.0
 pub mod ErrorPlaces
 pub mod Joining
+pub mod KeptNames
 pub mod Lookups
 pub mod Merged
 pub mod Pairs

@@ -1,7 +1,7 @@
 // SPDX-License-Identifier: Apache-2.0
 ghost use Rattle.std.specs.Prelude.{◌≡◌, ◌&&◌, ℕ, List, None, Some, IfOk, OnOk, option_map};
 ghost use Rattle.std.specs.Option.{option_or};
-ghost use Rattle.cedar_merge.specs.Joining.{AddsDeclarations, Finds, Joins, again, annotations_with, clash_place, conflict_place, finished, is_place_of, nothing, notes_under, otherwise};
+ghost use Rattle.cedar_merge.specs.Joining.{AddsDeclarations, ClashesAt, ConflictsAt, Finds, Joins, Keeps, again, annotations_with, clash_place, conflict_place, finished, is_place_of, nothing, notes_under, otherwise};
 ghost use Rattle.cedar_merge.specs.Lookups.{at_word, text_at};
 ghost use Rattle.cedar_merge.specs.Merged.{note_cmp, place_cmp};
 ghost use Rattle.cedar_merge.specs.Pairs.{opposed};
@@ -115,6 +115,8 @@ fn add_kind<K: Word + Dup + Drop, V: Stands + Drop>(
         (λ p. is_place_of path.now kind p
         && opposed V.against (at_word K.word all.old p.name) (at_word K.word more p.name))
         (option_map clash_place clash) (option_map clash_place now)) }
+    ensures kept { IfOk result (Keeps (ClashesAt path.now (λ p. is_place_of path.now kind p
+        && opposed V.against (at_word K.word all.old p.name) (at_word K.word more p.name))) clash) }
 {
     match add_entries(alloc, all, more)? {
         None => Ok(clash),
@@ -136,6 +138,7 @@ fn add_declarations(
     ensures declarations { OnOk result (AddsDeclarations all.old more all.new) }
     ensures clash { IfOk result (λ now. Finds place_cmp (again path.now all.old more)
         (option_map clash_place clash) (option_map clash_place now)) }
+    ensures kept { IfOk result (Keeps (ClashesAt path.now (again path.now all.old more)) clash) }
 {
     let NamespaceDefinition {
         common_types,
@@ -180,6 +183,8 @@ fn add_notes(
     ensures conflict { IfOk result (λ now. Finds note_cmp
         (otherwise path.now all.old annotations.now)
         (option_map conflict_place conflict) (option_map conflict_place now)) }
+    ensures kept { IfOk result (Keeps (ConflictsAt path.now
+        (otherwise path.now all.old annotations.now)) conflict) }
 {
     match path {
         None => Ok(conflict),
@@ -203,6 +208,8 @@ fn add_named_notes(
     ensures conflict { IfOk result (λ now. Finds note_cmp
         (otherwise (Some name.now) all.old annotations.now)
         (option_map conflict_place conflict) (option_map conflict_place now)) }
+    ensures kept { IfOk result (Keeps (ConflictsAt (Some name.now)
+        (otherwise (Some name.now) all.old annotations.now)) conflict) }
 {
     let more = copies_of(alloc, annotations)?;
     match add_entries(alloc, all, more)? {
@@ -229,6 +236,12 @@ pub(crate) fn join(
     ensures conflict { IfOk result (λ now. Finds note_cmp
         (otherwise path.now joined.old.notes definition.annotations)
         (option_map conflict_place found.conflict) (option_map conflict_place now.conflict)) }
+    ensures kept_clash { IfOk result (λ now. Keeps
+        (ClashesAt path.now (again path.now joined.old.definition definition))
+        found.clash now.clash) }
+    ensures kept_conflict { IfOk result (λ now. Keeps
+        (ConflictsAt path.now (otherwise path.now joined.old.notes definition.annotations))
+        found.conflict now.conflict) }
 {
     let Found { clash, conflict } = found;
     let annotations = &definition.annotations;

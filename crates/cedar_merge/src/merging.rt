@@ -3,6 +3,7 @@ ghost use Rattle.std.specs.Prelude.{◌≡◌, ◌++◌, [], ◌∷◌, List, So
 ghost use Rattle.cedar_data.specs.Answers.{IfRefused};
 ghost use Rattle.cedar_data.specs.Maps.{map_values};
 ghost use Rattle.cedar_merge.specs.Joining.{AddsNamespace, Holds, error_of, finished, is_in, nothing, said_of};
+ghost use Rattle.cedar_merge.specs.KeptNames.{KeepsNamespace};
 ghost use Rattle.cedar_merge.specs.Lookups.{Fragment as Held, Path, at, path_cmp, path_of};
 ghost use Rattle.cedar_merge.specs.Merged.{Merged, NoClash, NoConflict};
 ghost use Rattle.cedar_merge.specs.Texts.{TellsClash, TellsConflict};
@@ -24,6 +25,7 @@ pub fn merge(alloc: Global, fragments: Vec<Fragment<RawName>>) -> Out<Fragment<R
     ensures apart { IfOk result (λ _. NoClash fragments.items × NoConflict fragments.items) }
     ensures clash { IfRefused result (TellsClash fragments.items) }
     ensures conflict { IfRefused result (TellsConflict fragments.items) }
+    ensures kept { IfRefused result (KeepsNamespace fragments.items) }
 {
     let mut all = Map::new(alloc);
     let before = Found::nothing();

@@ -25,7 +25,9 @@ impl ClashPlace {
         kind: DeclKind,
         name: &Text,
     ) -> Mem<ClashPlace>
-        ensures { IfOk result (λ place. clash_place place ≡ place_told kind namespace.now name.now) }
+        ensures told { IfOk result (λ place. clash_place place
+            ≡ place_told kind namespace.now name.now) }
+        ensures kept { IfOk result (λ place. place.namespace ≡ namespace.now) }
     {
         let (namespace, name) = dup_two(alloc, namespace, name)?;
         Ok(ClashPlace {
@@ -62,7 +64,8 @@ pub(crate) struct ConflictPlace {
 impl ConflictPlace {
     /// The place of this key in a namespace.
     pub(crate) fn of(alloc: Global, namespace: &Name, key: AnyId) -> Mem<ConflictPlace>
-        ensures { IfOk result (λ place. conflict_place place ≡ note_told namespace.now key) }
+        ensures told { IfOk result (λ place. conflict_place place ≡ note_told namespace.now key) }
+        ensures kept { IfOk result (λ place. place.namespace ≡ namespace.now) }
     {
         let namespace = namespace.dup(alloc)?;
         Ok(ConflictPlace { namespace, key })

@@ -1,4 +1,5 @@
 -- SPDX-License-Identifier: Apache-2.0
+use Rattle.cedar_merge.proofs.Keeping.{keeps-same, some_kept}
 use Rattle.cedar_merge.proofs.Parts.{none_noted, none_otherwise, some_noted, some_otherwise}
 use Rattle.cedar_merge.proofs.joined.add_notes.Goals as goal
 
@@ -15,3 +16,10 @@ returns-in_ok-conflict-in-Some-clause-notes c =
 pub returns-in_ok-conflict-in-Some-clause-conflict : goal.returns-in_ok-conflict-in-Some-clause-conflict
 returns-in_ok-conflict-in-Some-clause-conflict c =
     some_otherwise c.args.path.now c.in-Some.name c.args.all.now c.args.annotations.now c.in-Some.is _ _ c.in_ok-conflict-in-Some.ensures.conflict
+
+pub returns-in-None-clause-kept : goal.returns-in-None-clause-kept
+returns-in-None-clause-kept c = keeps-same _ c.args.conflict
+
+pub returns-in_ok-conflict-in-Some-clause-kept : goal.returns-in_ok-conflict-in-Some-clause-kept
+returns-in_ok-conflict-in-Some-clause-kept c =
+    some_kept c.args.path.now c.in-Some.name c.args.all.now c.args.annotations.now c.in-Some.is _ _ c.in_ok-conflict-in-Some.ensures.kept
