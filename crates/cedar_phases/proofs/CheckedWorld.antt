@@ -7,7 +7,7 @@ use Rattle.cedar_data.specs.Firsts.{AllPass, FirstAgain, FirstRefused, NoneAgain
 use Rattle.cedar_declared.specs.Held.{names_of}
 use Rattle.cedar_declared.specs.Names.{Names}
 use Rattle.cedar_declared.specs.declared.all_defs.AllDefs.{AllDefs}
-use Rattle.cedar_sound.specs.of_duplicates.Duplicates.{Action, AreOnce, CommonType, Declared, EntityType, IsTwice, duplicate, same_declared}
+use Rattle.cedar_sound.specs.of_duplicates.Duplicates.{Action, AreOnce, CommonType, Declared, EntityType, IsTwice, same_declared}
 use Rattle.cedar_sound.specs.of_duplicates.Duplicates as code
 use Rattle.cedar_qualified.specs.of_missing.Undeclared.{Parent, missing_in_definition, missing_in_each, refusal_by, refusal_of}
 use Rattle.cedar_names.specs.Components.{components}

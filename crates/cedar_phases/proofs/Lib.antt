@@ -14,8 +14,10 @@ pub mod DeclaredTables
 pub mod DeclaredWorld
 pub mod Descending
 pub mod EntityReferences
+pub mod KeptReferences
 pub mod Making
 pub mod MembershipLists
+pub mod OtherRefusals
 pub mod OtherTargets
 pub mod Placing
 pub mod Records

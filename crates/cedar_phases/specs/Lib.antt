@@ -9,5 +9,6 @@ pub mod of_duplicates
 pub use Rattle.cedar_sound.specs.Sound
 pub use Rattle.cedar_checks.specs.SchemaViews
 pub mod Holding
+pub mod Kept
 pub mod Places
 pub mod NotDeclared

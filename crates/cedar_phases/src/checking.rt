@@ -1,11 +1,12 @@
 // SPDX-License-Identifier: Apache-2.0
-ghost use Rattle.std.specs.Prelude.{◌≡◌, None, Some, IfOk};
+ghost use Rattle.std.specs.Prelude.{◌≡◌, true, None, Some, IfOk};
 ghost use Rattle.cedar_data.specs.Answers.{IfRefused};
 ghost use Rattle.cedar_declared.specs.Held.{names_of};
 ghost use Rattle.cedar_declared.specs.of_definitions.Structures.{definitions_of};
 ghost use Rattle.cedar_qualified.specs.of_missing.Undeclared.{missing_in_definition, missing_in_each, refusal_of};
 ghost use Rattle.cedar_names.specs.declared.extensions.Extensions.{Extensions};
 ghost use Rattle.cedar_phases.specs.Holding.{AllPassed, Holds, OneRefuses, early_phases};
+ghost use Rattle.cedar_phases.specs.Kept.{is_missing};
 ghost use Rattle.cedar_schema_error.specs.Told.{told};
 ghost use Rattle.cedar_qualified.specs.of_world.Worlds.{World};
 
@@ -52,6 +53,10 @@ pub(crate) fn check_definitions(
     ensures refused { IfRefused result (λ e. (W : World) (X : Extensions)
         → Holds W all_defs.now (definitions_of definitions.now) X
         → OneRefuses W early_phases (told e)) }
+    ensures kept { IfRefused result (λ e. is_missing (told e) ≡ true
+        → refusal_of
+        (missing_in_each (missing_in_definition (names_of all_defs.now))
+        (definitions_of definitions.now)) ≡ Some e) }
 {
     match refuse_missing(alloc, all_defs, definitions) {
         Ok(()) => refuse_duplicates(alloc, definitions.definitions()),

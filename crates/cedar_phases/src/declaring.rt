@@ -1,12 +1,12 @@
 // SPDX-License-Identifier: Apache-2.0
-ghost use Rattle.std.specs.Prelude.{◌≡◌, ◌++◌, IfOk};
+ghost use Rattle.std.specs.Prelude.{◌≡◌, ◌++◌, IfOk, List};
 ghost use Rattle.std.specs.List.{flat_map};
 ghost use Rattle.cedar_data.specs.Answers.{IfRefused};
 ghost use Rattle.cedar_declared.specs.Gathering.{declared_names};
 ghost use Rattle.cedar_declared.specs.Held.{names_of};
 ghost use Rattle.cedar_declared.specs.Names.{SameNames};
 ghost use Rattle.cedar_declared.specs.of_definitions.Structures.{definitions_of};
-ghost use Rattle.cedar_phases.specs.Holding.{Holds, world_of};
+ghost use Rattle.cedar_phases.specs.Holding.{Definition, Holds, world_of};
 ghost use Rattle.cedar_phases.specs.Places.{places_in};
 ghost use Rattle.cedar_schema_error.specs.Told.{told};
 ghost use Rattle.cedar_sound.specs.Sound.{Passes, RefusesAt, Shadowing};
@@ -71,6 +71,8 @@ fn declare_all(
         (definitions_of d.definitions) extensions.now) }
     ensures places { IfOk result (λ d. places_in (definitions_of d.definitions)
         ≡ places_in (flat_map definitions_of fragments.items)) }
+    ensures behind { IfOk result (λ d. (builtins : List Definition) × (definitions_of d.definitions
+        ≡ flat_map definitions_of fragments.items ++ builtins)) }
 {
     let builtins = builtin_definitions(alloc, &own, extensions)?;
     let all_defs = own.with_fragment(&builtins)?;
@@ -97,6 +99,8 @@ fn declare_with(
         (definitions_of d.definitions) extensions.now) }
     ensures places { IfOk result (λ d. places_in (definitions_of d.definitions)
         ≡ places_in (flat_map definitions_of fragments.items)) }
+    ensures behind { IfOk result (λ d. (builtins : List Definition) × (definitions_of d.definitions
+        ≡ flat_map definitions_of fragments.items ++ builtins)) }
     ensures refused { IfRefused result
         (λ e. RefusesAt (world_of fragments.items extensions.now) Shadowing (told e)) }
 {
@@ -123,6 +127,8 @@ pub(crate) fn declare(
         (definitions_of d.definitions) extensions.now) }
     ensures places { IfOk result (λ d. places_in (definitions_of d.definitions)
         ≡ places_in (flat_map definitions_of fragments.items)) }
+    ensures behind { IfOk result (λ d. (builtins : List Definition) × (definitions_of d.definitions
+        ≡ flat_map definitions_of fragments.items ++ builtins)) }
     ensures refused { IfRefused result
         (λ e. RefusesAt (world_of fragments.items extensions.now) Shadowing (told e)) }
 {

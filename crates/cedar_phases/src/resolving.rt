@@ -1,13 +1,16 @@
 // SPDX-License-Identifier: Apache-2.0
-ghost use Rattle.std.specs.Prelude.{◌++◌, IfOk, List};
+ghost use Rattle.std.specs.Prelude.{◌≡◌, ◌++◌, true, Some, IfOk, List};
 ghost use Rattle.std.specs.List.{flat_map};
 ghost use Rattle.cedar_data.specs.Answers.{IfRefused};
+ghost use Rattle.cedar_declared.specs.Held.{names_of};
 ghost use Rattle.cedar_declared.specs.of_definitions.Structures.{definitions_of};
 ghost use Rattle.cedar_phases.specs.Holding.{AllPassed, AreTables, Definition, Holds, OneRefuses, early_phases, later_phases, world_of};
+ghost use Rattle.cedar_phases.specs.Kept.{KeepsReferences, is_missing};
 ghost use Rattle.cedar_phases.specs.Places.{IsPlaced, places_in, places_outlined};
 ghost use Rattle.cedar_checks.specs.SchemaViews.{IsConsistent, schema_in};
 ghost use Rattle.cedar_schema_error.specs.Told.{told};
 ghost use Rattle.cedar_sound.specs.Sound.{Cause, Passes, References, Sound};
+ghost use Rattle.cedar_qualified.specs.of_missing.Undeclared.{missing_in_definition, missing_in_each, refusal_of};
 ghost use Rattle.cedar_qualified.specs.of_world.Denotes.{Denotes};
 ghost use Rattle.cedar_qualified.specs.of_world.Worlds.{World};
 
@@ -114,6 +117,12 @@ fn resolve_declarations(
     ensures refused { IfRefused result (λ e. (W : World)
         → Holds W declarations.all_defs (definitions_of declarations.definitions) extensions.now
         → OneRefuses W (early_phases ++ later_phases) (told e)) }
+    ensures kept { IfRefused result (λ e. (W : World)
+        → Holds W declarations.all_defs (definitions_of declarations.definitions) extensions.now
+        → is_missing (told e) ≡ true
+        → refusal_of
+        (missing_in_each (missing_in_definition (names_of declarations.all_defs))
+        (definitions_of declarations.definitions)) ≡ Some e) }
 {
     let Declarations {
         all_defs,
@@ -139,6 +148,10 @@ impl FromSchemaFragments for ValidatorSchema {
             (IsPlaced (places_in (flat_map definitions_of fragments.items))) }
         ensures refused { IfRefused result
             (λ e. Cause (world_of fragments.items extensions.now) (told e)) }
+        // Of references that mean nothing, those that the definitions miss are kept, places and all.
+        ensures kept { IfRefused result (λ e. is_missing (told e) ≡ true
+            → KeepsReferences (world_of fragments.items extensions.now)
+            (flat_map definitions_of fragments.items) e) }
     {
         match declare(alloc, fragments, extensions) {
             Ok(declarations) => resolve_declarations(alloc, declarations, extensions),

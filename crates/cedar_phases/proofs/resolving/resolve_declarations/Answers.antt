@@ -1,9 +1,12 @@
 -- SPDX-License-Identifier: Apache-2.0
-use Rattle.std.proofs.Common.{◌++◌}
+use Rattle.std.proofs.Common.{◌≡◌, ◌++◌, true}
 use Rattle.cedar_declared.specs.of_definitions.Structures.{definitions_of}
 use Rattle.cedar_phases.specs.Holding.{AllPassed, Holds, OneRefuses, early_phases, later_phases}
 use Rattle.cedar_checks.specs.SchemaViews.{schema_in}
 use Rattle.cedar_phases.proofs.Carried.{carried, passed, refused}
+use Rattle.cedar_phases.specs.Kept.{is_missing}
+use Rattle.cedar_phases.proofs.KeptReferences.{Missed}
+use Rattle.cedar_phases.proofs.OtherRefusals.{later_other, true-false}
 use Rattle.cedar_phases.proofs.Composing.{refused_first, refused_later}
 use Rattle.cedar_resolved.specs.declared.schema.ValidatorSchema.{ValidatorSchema}
 use Rattle.cedar_schema_error.specs.Told.{told}
@@ -39,3 +42,16 @@ returns-clause-refused c =
     carried (Unit {0}) ValidatorSchema (λ e. (W : World) (X : Extensions) → Holds W c.args.declarations.all_defs (definitions_of c.args.declarations.definitions) X → OneRefuses W early_phases (told e))
     (λ e. (W : World) → Holds W c.args.declarations.all_defs (definitions_of c.args.declarations.definitions) c.args.extensions.now → OneRefuses W (early_phases ++ later_phases) (told e))
     (λ e f W h. refused_first (Passes W) (RefusesAt W) early_phases later_phases (told e) (f W c.args.extensions.now h)) c.in-Err.failure c.in-Err.ensures.refused
+
+pub returns-in-Ok-clause-kept : goal.returns-in-Ok-clause-kept
+returns-in-Ok-clause-kept c =
+    refused (λ e. (W : World) → Holds W c.args.declarations.all_defs (definitions_of c.args.declarations.definitions) c.args.extensions.now → Passes W References → OneRefuses W later_phases (told e))
+    (λ e. (W : World) → Holds W c.args.declarations.all_defs (definitions_of c.args.declarations.definitions) c.args.extensions.now → is_missing (told e) ≡ true → Missed c.args.declarations.all_defs c.args.declarations.definitions e)
+    (λ e f W h is. absurd (true-false _ is (later_other W (told e) (f W h (c.in-Ok.ensures.passes W c.args.extensions.now h).0))))
+    c.resolve_checked.result c.resolve_checked.ensures.refused
+
+pub returns-clause-kept : goal.returns-clause-kept
+returns-clause-kept c =
+    carried (Unit {0}) ValidatorSchema (λ e. is_missing (told e) ≡ true → Missed c.args.declarations.all_defs c.args.declarations.definitions e)
+    (λ e. (W : World) → Holds W c.args.declarations.all_defs (definitions_of c.args.declarations.definitions) c.args.extensions.now → is_missing (told e) ≡ true → Missed c.args.declarations.all_defs c.args.declarations.definitions e)
+    (λ e f W h. f) c.in-Err.failure c.in-Err.ensures.kept

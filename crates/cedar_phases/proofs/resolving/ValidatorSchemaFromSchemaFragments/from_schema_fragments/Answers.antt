@@ -1,10 +1,14 @@
 -- SPDX-License-Identifier: Apache-2.0
-use Rattle.std.proofs.Common.{◌++◌, IfOk, subst}
+use Rattle.std.proofs.Common.{◌≡◌, ◌++◌, true, IfOk, subst}
+use Rattle.std.specs.List.{flat_map}
 use Rattle.cedar_declared.specs.of_definitions.Structures.{definitions_of}
 use Rattle.cedar_phases.specs.Holding.{AllPassed, Holds, OneRefuses, early_phases, later_phases, world_of}
 use Rattle.cedar_phases.specs.Places.{IsPlaced}
 use Rattle.cedar_checks.specs.SchemaViews.{schema_in}
 use Rattle.cedar_phases.proofs.Carried.{carried, passed, passed_both, refused}
+use Rattle.cedar_phases.specs.Kept.{KeepsReferences, is_missing}
+use Rattle.cedar_phases.proofs.KeptReferences.{Missed, keeps_references}
+use Rattle.cedar_phases.proofs.OtherRefusals.{shadowing_other, true-false}
 use Rattle.cedar_phases.proofs.Composing.{cause_first, cause_later, sound_by}
 use Rattle.cedar_resolved.specs.declared.schema.ValidatorSchema.{ValidatorSchema}
 use Rattle.cedar_schema_error.specs.Told.{told}
@@ -36,3 +40,17 @@ pub returns-in-Err-clause-refused : goal.returns-in-Err-clause-refused
 returns-in-Err-clause-refused c =
     carried Declarations ValidatorSchema (λ e. RefusesAt (world_of c.args.fragments.items c.args.extensions.now) Shadowing (told e)) (λ e. Cause (world_of c.args.fragments.items c.args.extensions.now) (told e))
     (λ e r. cause_first (world_of c.args.fragments.items c.args.extensions.now) (told e) r) c.in-Err.failure c.in-Err.ensures.refused
+
+pub returns-in-Ok-clause-kept : goal.returns-in-Ok-clause-kept
+returns-in-Ok-clause-kept c =
+    refused (λ e. (W : World) → Holds W c.in-Ok.declarations.all_defs (definitions_of c.in-Ok.declarations.definitions) c.args.extensions.now → is_missing (told e) ≡ true → Missed c.in-Ok.declarations.all_defs c.in-Ok.declarations.definitions e)
+    (λ e. is_missing (told e) ≡ true → KeepsReferences (world_of c.args.fragments.items c.args.extensions.now) (flat_map definitions_of c.args.fragments.items) e)
+    (λ e f is. keeps_references (world_of c.args.fragments.items c.args.extensions.now) c.in-Ok.declarations.all_defs c.in-Ok.declarations.definitions c.args.extensions.now (flat_map definitions_of c.args.fragments.items) e
+    c.in-Ok.ensures.holds c.in-Ok.ensures.behind (f (world_of c.args.fragments.items c.args.extensions.now) c.in-Ok.ensures.holds is))
+    c.resolve_declarations.result c.resolve_declarations.ensures.kept
+
+pub returns-in-Err-clause-kept : goal.returns-in-Err-clause-kept
+returns-in-Err-clause-kept c =
+    carried Declarations ValidatorSchema (λ e. RefusesAt (world_of c.args.fragments.items c.args.extensions.now) Shadowing (told e))
+    (λ e. is_missing (told e) ≡ true → KeepsReferences (world_of c.args.fragments.items c.args.extensions.now) (flat_map definitions_of c.args.fragments.items) e)
+    (λ e r is. absurd (true-false _ is (shadowing_other (world_of c.args.fragments.items c.args.extensions.now) (told e) r))) c.in-Err.failure c.in-Err.ensures.refused
