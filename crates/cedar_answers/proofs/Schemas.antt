@@ -12,7 +12,8 @@ use Rattle.cedar_schema_json.specs.Texts.{DenotesSchema, TextCause}
 use Rattle.cedar_schema_errors.specs.declared.schema_error.CedarSchemaError.{CedarSchemaError}
 use Rattle.cedar_schema_errors.specs.declared.schema_error.CedarSchemaError.TheVariants.{Parsing, Schema}
 use Rattle.cedar_answers.specs.Causes.{JsonTextCause}
-use Rattle.cedar_answers.specs.Making.{IsSchemaOf, IsJsonSchemaOf, MakesJsonListing, TellsJsonSchema, TellsSchema}
+use Rattle.cedar_answers.specs.Making.{IsSchemaOf, IsJsonSchemaOf, MakesJsonListing, TellsNoJsonSchema}
+use Rattle.cedar_reviews.specs.Holding.{TellsNoSchema}
 use Rattle.cedar_reviews.specs.Refusal.{refusal_text}
 
 module _ (text : List ℕ) (extensions : List (List ℕ)) where
@@ -27,7 +28,7 @@ module _ (text : List ℕ) (extensions : List (List ℕ)) where
     schema-due (Ok m) denotes consistent = (schema_of m, warnings_of m, record { denotes = denotes; consistent = consistent }, refl)
     schema-due (Err e) denotes consistent = tt
 
-  pub schema-told : {T : Type 0} (made : Result T (Failure CedarSchemaError)) → IfRefused made (TextCause text extensions) → IfRefused made (λ e. TellsSchema text extensions (refusal_text e))
+  pub schema-told : {T : Type 0} (made : Result T (Failure CedarSchemaError)) → IfRefused made (TextCause text extensions) → IfRefused made (λ e. TellsNoSchema text extensions (refusal_text e))
   schema-told (Ok m) cause = tt
   schema-told (Err (Refused e)) cause = (e, cause, refl)
   schema-told (Err NoMemory) cause = tt
@@ -38,7 +39,7 @@ module _ (text : List ℕ) (extensions : List (List ℕ)) where
   json_schema-due (Ok schema) is = (schema, is, refl)
   json_schema-due (Err e) is = tt
 
-  pub json_schema-told : {T : Type 0} (made : Result T (Failure CedarSchemaError)) → IfRefused made (JsonTextCause text extensions) → IfRefused made (λ e. TellsJsonSchema text extensions (refusal_text e))
+  pub json_schema-told : {T : Type 0} (made : Result T (Failure CedarSchemaError)) → IfRefused made (JsonTextCause text extensions) → IfRefused made (λ e. TellsNoJsonSchema text extensions (refusal_text e))
   json_schema-told (Ok m) cause = tt
   json_schema-told (Err (Refused (Schema e))) cause = (e, cause, refl)
   json_schema-told (Err (Refused (Parsing e))) cause = absurd cause

@@ -22,15 +22,15 @@ use Rattle.cedar_listing.specs.Listing.{listing}
 use Rattle.cedar_schema_json.specs.SchemaViews.{IsConsistent, schema_in}
 use Rattle.cedar_print.specs.Pieces.{text_of}
 use Rattle.cedar_resolved.specs.declared.schema.ValidatorSchema.{ValidatorSchema}
-use Rattle.cedar_schema_json.specs.Texts.{DenotesSchema, IsWellFormed, ParsingCause, TextCause}
+use Rattle.cedar_schema_json.specs.Texts.{DenotesSchema, IsWellFormed}
 use Rattle.cedar_schema_error.specs.declared.schema_error.SchemaError.{SchemaError}
 use Rattle.cedar_schema_error.specs.declared.schema_error.SchemaError.TheVariants.{JsonDeserialization}
-use Rattle.cedar_schema_errors.specs.declared.schema_error.CedarSchemaError.{CedarSchemaError}
 use Rattle.cedar_schema_errors.specs.declared.schema_error.CedarSchemaError.TheVariants.{Schema}
 use Rattle.cedar_schema_json.specs.JsonSchemas as json
 use Rattle.cedar_written.specs.declared.raw_name.RawName.{RawName}
 use Rattle.cedar_answers.specs.declared.report.Report.{Report}
 use Rattle.cedar_answers.specs.declared.report.Report.TheVariants.{Listing, Counts}
+use Rattle.cedar_reviews.specs.Holding.{TellsNoDeclaration, TellsNoSchema}
 use Rattle.cedar_reviews.specs.Refusal.{collisions_refusal, refusal_text}
 use Rattle.cedar_reviews.specs.Reviewing.{IsReviewable, MakesReview, TellsReview}
 use Rattle.cedar_reviews.specs.RawNames.{raw_text}
@@ -92,22 +92,14 @@ Makes (Bench n) text extensions due = MakesReport Counts text extensions due
 
 -- ---- why a text is refused: what is told
 
--- it denotes no schema
-abbrev pub TellsSchema : List ℕ → List (List ℕ) → List ℕ → Type 0
-TellsSchema text extensions told = (e : CedarSchemaError) × TextCause text extensions e × (told ≡ refusal_text e)
-
 -- it denotes no schema in JSON
-abbrev pub TellsJsonSchema : List ℕ → List (List ℕ) → List ℕ → Type 0
-TellsJsonSchema text extensions told =
+abbrev pub TellsNoJsonSchema : List ℕ → List (List ℕ) → List ℕ → Type 0
+TellsNoJsonSchema text extensions told =
     (e : SchemaError) × json.JsonCause (IsFragmentText text) (advised_fault text) extensions e × (told ≡ refusal_text (Schema e))
 
--- it declares nothing
-abbrev pub TellsParsing : List ℕ → List ℕ → Type 0
-TellsParsing text told = (e : CedarSchemaError) × ParsingCause text e × (told ≡ refusal_text e)
-
 -- it has a fault in JSON
-abbrev pub TellsFault : List ℕ → List ℕ → Type 0
-TellsFault text told =
+abbrev pub TellsJsonFault : List ℕ → List ℕ → Type 0
+TellsJsonFault text told =
     (e : JsonDeserializationError) × (advised_fault text ≡ Some e) × (told ≡ refusal_text (Schema (JsonDeserialization e)))
 
 -- it declares names that are both an entity type and a common type
@@ -117,13 +109,13 @@ TellsCollisions text told =
 
 -- why a command refuses a text
 unfoldable pub Tells : Command → List ℕ → List (List ℕ) → List ℕ → Type 0
-Tells Resolve text extensions told = TellsSchema text extensions told
-Tells ResolveJson text extensions told = TellsJsonSchema text extensions told
-Tells Check text extensions told = TellsSchema text extensions told
-Tells ToJson text extensions told = TellsParsing text told
-Tells ToCedar text extensions told = TellsFault text told ⊎ TellsCollisions text told
+Tells Resolve text extensions told = TellsNoSchema text extensions told
+Tells ResolveJson text extensions told = TellsNoJsonSchema text extensions told
+Tells Check text extensions told = TellsNoSchema text extensions told
+Tells ToJson text extensions told = TellsNoDeclaration text told
+Tells ToCedar text extensions told = TellsJsonFault text told ⊎ TellsCollisions text told
 Tells (Review review) text extensions told = TellsReview review text extensions told
-Tells (Bench n) text extensions told = TellsSchema text extensions told
+Tells (Bench n) text extensions told = TellsNoSchema text extensions told
 
 -- ---- which texts a command accepts
 

@@ -1,7 +1,8 @@
 // SPDX-License-Identifier: Apache-2.0
 ghost use Rattle.cedar_answers.specs.Answers.{Answers, IsAcceptance, Puts};
 ghost use Rattle.cedar_answers.specs.Made.{AnswersMade};
-ghost use Rattle.cedar_answers.specs.Making.{DenotesAny, MakesReport, TellsSchema, report_text};
+ghost use Rattle.cedar_answers.specs.Making.{DenotesAny, MakesReport, report_text};
+ghost use Rattle.cedar_reviews.specs.Holding.{TellsNoSchema};
 ghost use Rattle.cedar_reviews.specs.Refusal.{refusal_text};
 ghost use Rattle.cedar_names.specs.Extensions.{extension_words};
 
@@ -53,7 +54,7 @@ pub(crate) fn answer_report<K: Sink, E: Sink>(
     err: &mut E,
 ) -> Status
     ensures answers { Answers (MakesReport report text.now (extension_words extensions.now))
-        (TellsSchema text.now (extension_words extensions.now))
+        (TellsNoSchema text.now (extension_words extensions.now))
         (record { bytes = K.written out.old; faults = K.faults out.old })
         (record { bytes = K.written out.new; faults = K.faults out.new })
         (record { bytes = E.written err.old; faults = E.faults err.old })

@@ -3,7 +3,7 @@ ghost use Rattle.std.specs.Prelude.{⊤, [], IfOk};
 ghost use Rattle.cedar_answers.specs.Answers.{Answers, IsAcceptance};
 ghost use Rattle.cedar_answers.specs.Causes.{JsonTextCause};
 ghost use Rattle.cedar_answers.specs.Made.{AnswersMade};
-ghost use Rattle.cedar_answers.specs.Making.{DenotesAnyInJson, IsJsonSchemaOf, MakesJsonListing, TellsJsonSchema};
+ghost use Rattle.cedar_answers.specs.Making.{DenotesAnyInJson, IsJsonSchemaOf, MakesJsonListing, TellsNoJsonSchema};
 ghost use Rattle.cedar_reviews.specs.Refusal.{refusal_text};
 ghost use Rattle.cedar_data.specs.Answers.{Accepts, IfRefused};
 ghost use Rattle.cedar_listing.specs.Listing.{listing};
@@ -28,7 +28,7 @@ pub(crate) fn answer_resolve_json<K: Sink, E: Sink>(
     err: &mut E,
 ) -> Status
     ensures answers { Answers (MakesJsonListing text.now (extension_words extensions.now))
-        (TellsJsonSchema text.now (extension_words extensions.now))
+        (TellsNoJsonSchema text.now (extension_words extensions.now))
         (record { bytes = K.written out.old; faults = K.faults out.old })
         (record { bytes = K.written out.new; faults = K.faults out.new })
         (record { bytes = E.written err.old; faults = E.faults err.old })

@@ -3,10 +3,11 @@ ghost use Rattle.std.specs.Prelude.{◌≡◌, ◌++◌, ⊤, codes, IfOk};
 ghost use Rattle.std.specs.String.{string_bytes};
 ghost use Rattle.serde_json.specs.Written.{compact_text};
 ghost use Rattle.cedar_answers.specs.Answers.{Answers, IsAcceptance};
-ghost use Rattle.cedar_answers.specs.Making.{DeclaresAny, MakesJson, TellsParsing};
+ghost use Rattle.cedar_answers.specs.Making.{DeclaresAny, MakesJson};
 ghost use Rattle.cedar_data.specs.Answers.{Accepts, IfRefused};
 ghost use Rattle.cedar_json_write.specs.Written.{fragment_json};
 ghost use Rattle.cedar_names.specs.Extensions.{extension_words};
+ghost use Rattle.cedar_reviews.specs.Holding.{TellsNoDeclaration};
 
 use crate::output::answer_written;
 use cedar_commands::Status;
@@ -29,7 +30,7 @@ pub(crate) fn answer_to_json<K: Sink, E: Sink>(
     err: &mut E,
 ) -> Status
     ensures answers { Answers (MakesJson text.now (extension_words extensions.now))
-        (TellsParsing text.now)
+        (TellsNoDeclaration text.now)
         (record { bytes = K.written out.old; faults = K.faults out.old })
         (record { bytes = K.written out.new; faults = K.faults out.new })
         (record { bytes = E.written err.old; faults = E.faults err.old })
@@ -44,7 +45,7 @@ pub(crate) fn answer_to_json<K: Sink, E: Sink>(
 fn json_line(alloc: Global, text: &str, extensions: &Extensions) -> Out<String, String>
     ensures due { IfOk result (λ line.
         MakesJson text.now (extension_words extensions.now) (string_bytes line)) }
-    ensures told { IfRefused result (λ told. TellsParsing text.now (string_bytes told)) }
+    ensures told { IfRefused result (λ told. TellsNoDeclaration text.now (string_bytes told)) }
     ensures accepts { DeclaresAny text.now (extension_words extensions.now)
         → Accepts (λ _. ⊤) result }
 {

@@ -9,7 +9,7 @@ use Rattle.serde_json.specs.Data.{Data, array}
 use Rattle.serde_json.specs.Find.{as_str}
 use Rattle.serde_json.specs.View.{view, items_view}
 use Rattle.serde_json.specs.declared.value.Value.{Value}
-use Rattle.cedar_reviews.specs.Holding.{TellsParsing}
+use Rattle.cedar_reviews.specs.Holding.{TellsNoDeclaration}
 use Rattle.cedar_reviews.specs.Merging.{Declares, EachDeclares, Held, TellsUndeclared, TellsUnlisted, TellsUnmerged, other_item, text_in, texts_in, unless_text}
 
 -- ---- the first item that is no text
@@ -62,14 +62,14 @@ module _ (extensions : List (List ℕ)) where
       let all = sofar.gives [] (subst (λ es. EachDeclares extensions (texts_in (items_view es)) []) (sym none) tt) in
       subst (EachDeclares extensions (texts_in (items_view whole))) (append-nil made) all
 
-  pub DeclaresTexts-refused : {whole left rest : List Value} {made : List Held} {value : Value} (told : List ℕ) → DeclaresTexts whole left made → left ≡ value ∷ rest → TellsParsing (text_in (view value)) told → TellsUndeclared extensions (texts_in (items_view whole)) told
+  pub DeclaresTexts-refused : {whole left rest : List Value} {made : List Held} {value : Value} (told : List ℕ) → DeclaresTexts whole left made → left ≡ value ∷ rest → TellsNoDeclaration (text_in (view value)) told → TellsUndeclared extensions (texts_in (items_view whole)) told
   DeclaresTexts-refused {rest = rest} {value = value} told sofar at_left t =
       let one : TellsUndeclared extensions (texts_in (items_view (value ∷ rest))) told = inl t in
       sofar.tells told (subst (λ es. TellsUndeclared extensions (texts_in (items_view es)) told) (sym at_left) one)
 
   -- where one of them declares nothing, all are refused for that
   pub refused-told : (T U : Type 0) {E : Type 0} (bytes : E → List ℕ) (whole left rest : List Value) (made : List Held) (value : Value) (failure : Failure E) → DeclaresTexts whole left made → left ≡ value ∷ rest
-      → IfRefused {T = T} (Err failure) (λ e. TellsParsing (text_in (view value)) (bytes e)) → IfRefused {T = U} (Err failure) (λ e. TellsUndeclared extensions (texts_in (items_view whole)) (bytes e))
+      → IfRefused {T = T} (Err failure) (λ e. TellsNoDeclaration (text_in (view value)) (bytes e)) → IfRefused {T = U} (Err failure) (λ e. TellsUndeclared extensions (texts_in (items_view whole)) (bytes e))
   refused-told T U bytes whole left rest made value (Refused e) sofar at_left t = DeclaresTexts-refused (bytes e) sofar at_left t
   refused-told T U bytes whole left rest made value NoMemory sofar at_left t = tt
 

@@ -15,12 +15,12 @@ use Rattle.cedar_merge.specs.declared.errors.MergeError.TheVariants.{AnnotationC
 use Rattle.cedar_schema.proofs.Declaring.{declared_or_not}
 use Rattle.cedar_schema_errors.specs.declared.schema_error.CedarSchemaError.TheVariants.{Parsing, Schema}
 use Rattle.cedar_reviews.proofs.Held.{held-or-told, one_value}
-use Rattle.cedar_reviews.specs.Holding.{TellsParsing}
+use Rattle.cedar_reviews.specs.Holding.{TellsNoDeclaration}
 use Rattle.cedar_reviews.specs.Merging.{Agree, AreTexts, Declares, EachDeclares, Held, HoldsSchemas, IsMergeable, TellsMerging, TellsOther, TellsUndeclared, TellsUnlisted, TellsUnmerged, other_value, texts_in}
 
 -- ---- what texts declare
 
-declared-or-told : (extensions : List (List ℕ)) (text told : List ℕ) (F : Held) → Declares extensions text F → TellsParsing text told → ⊥
+declared-or-told : (extensions : List (List ℕ)) (text told : List ℕ) (F : Held) → Declares extensions text F → TellsNoDeclaration text told → ⊥
 declared-or-told extensions text told F (warned, declares) (Parsing e, cause, is) = declared_or_not text extensions (fragment_seen F) warned e.errors declares cause.0
 declared-or-told extensions text told F declares (Schema e, cause, is) = cause
 

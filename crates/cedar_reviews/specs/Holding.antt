@@ -27,8 +27,8 @@ abbrev pub Denotes : List ℕ → List (List ℕ) → Schema → Type 0
 Denotes text extensions S = (warned : List SchemaWarning) × DenotesSchema text extensions S warned
 
 -- a text declares nothing, and this is told of it
-abbrev pub TellsParsing : List ℕ → List ℕ → Type 0
-TellsParsing text told = (e : CedarSchemaError) × ParsingCause text e × (told ≡ refusal_text e)
+abbrev pub TellsNoDeclaration : List ℕ → List ℕ → Type 0
+TellsNoDeclaration text told = (e : CedarSchemaError) × ParsingCause text e × (told ≡ refusal_text e)
 
 -- a text denotes no schema, and this is told of it
 abbrev pub TellsNoSchema : List ℕ → List (List ℕ) → List ℕ → Type 0

@@ -14,7 +14,7 @@ use Rattle.cedar_merge.specs.Merged.{Merged, NoClash, NoConflict}
 use Rattle.cedar_merge.specs.Texts.{TellsClash, TellsConflict, error_text}
 use Rattle.cedar_merge.specs.declared.errors.MergeError.{MergeError}
 use Rattle.cedar_written.specs.declared.raw_name.RawName.{RawName}
-use Rattle.cedar_reviews.specs.Holding.{TellsEnvelope, TellsParsing}
+use Rattle.cedar_reviews.specs.Holding.{TellsEnvelope, TellsNoDeclaration}
 use Rattle.cedar_reviews.specs.Printing.{IsPrintedAs, TellsCollisionsOf}
 use Rattle.cedar_reviews.specs.Refusal.{error_line}
 use Rattle.cedar_reviews.specs.declared.schemas_not_texts.SchemasNotTexts.{SchemasNotTexts}
@@ -70,7 +70,7 @@ EachDeclares extensions (t ∷ ts) (F ∷ Fs) = Declares extensions t F × EachD
 abbrev pub TellsUndeclared : List (List ℕ) → List (List ℕ) → List ℕ → Type 0
 TellsUndeclared extensions [] told = ⊥
 TellsUndeclared extensions (t ∷ ts) told =
-    TellsParsing t told ⊎ (((F : Held) × Declares extensions t F) × TellsUndeclared extensions ts told)
+    TellsNoDeclaration t told ⊎ (((F : Held) × Declares extensions t F) × TellsUndeclared extensions ts told)
 
 -- ---- merging
 

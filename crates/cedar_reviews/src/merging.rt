@@ -6,7 +6,7 @@ ghost use Rattle.serde_json.specs.View.{items_view, view};
 ghost use Rattle.cedar_data.specs.Answers.{IfRefused};
 ghost use Rattle.cedar_envelope.specs.Envelopes.{IsEnvelope, contents};
 ghost use Rattle.cedar_names.specs.Extensions.{extension_words};
-ghost use Rattle.cedar_reviews.specs.Holding.{TellsEnvelope, TellsParsing};
+ghost use Rattle.cedar_reviews.specs.Holding.{TellsEnvelope, TellsNoDeclaration};
 ghost use Rattle.cedar_reviews.specs.Merging.{AreMergedAs, Declares, EachDeclares, HoldsMerged, HoldsUnmerged, IsMergedAs, MakesMerge, TellsMerging, TellsUndeclared, TellsUnlisted, TellsUnmerged, other_item, other_value, text_in, texts_in};
 ghost use Rattle.cedar_text.specs.Words.{has_word};
 
@@ -137,7 +137,7 @@ fn declared_by(
 ) -> Out<Fragment<RawName>, String>
     ensures made { IfOk result (λ made. Declares (extension_words extensions.now)
         (text_in (view item.now)) made) }
-    ensures told { IfRefused result (λ told. TellsParsing (text_in (view item.now))
+    ensures told { IfRefused result (λ told. TellsNoDeclaration (text_in (view item.now))
         (string_bytes told)) }
 {
     let text = item.as_str().unwrap_or("");

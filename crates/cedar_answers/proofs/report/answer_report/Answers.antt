@@ -8,7 +8,8 @@ use Rattle.cedar_resolved.specs.declared.schema.ValidatorSchema.{ValidatorSchema
 use Rattle.cedar_world.specs.Denotes.{Denotes}
 use Rattle.cedar_answers.proofs.ByMade.{made-accepts, made-answers}
 use Rattle.cedar_answers.proofs.Schemas.{schema-due, schema-told}
-use Rattle.cedar_answers.specs.Making.{MakesReport, TellsSchema, report_text}
+use Rattle.cedar_answers.specs.Making.{MakesReport, report_text}
+use Rattle.cedar_reviews.specs.Holding.{TellsNoSchema}
 use Rattle.cedar_reviews.specs.Refusal.{refusal_text}
 use Rattle.cedar_answers.proofs.report.answer_report.Goals as goal
 
@@ -19,7 +20,7 @@ Made = ValidatorSchema × Vec SchemaWarning Global
 pub returns-clause-answers : goal.returns-clause-answers
 returns-clause-answers g c =
     made-answers g.K.Sink.written g.K.Sink.faults g.E.Sink.written g.E.Sink.faults c.args.out.now c.report_made-status.new.out c.args.err.now c.report_made-status.new.err c.report_made-status.result
-    {T = Made} (λ made. report_text c.args.report made.0 made.1.items) refusal_text (MakesReport c.args.report c.args.text.now (extension_words c.args.extensions.now)) (TellsSchema c.args.text.now (extension_words c.args.extensions.now)) c.from_cedarschema_str-made.result
+    {T = Made} (λ made. report_text c.args.report made.0 made.1.items) refusal_text (MakesReport c.args.report c.args.text.now (extension_words c.args.extensions.now)) (TellsNoSchema c.args.text.now (extension_words c.args.extensions.now)) c.from_cedarschema_str-made.result
     (schema-due c.args.text.now (extension_words c.args.extensions.now) {T = Made} (λ made. made.0) (λ made. made.1.items) (report_text c.args.report) c.from_cedarschema_str-made.result c.from_cedarschema_str-made.ensures.denotes c.from_cedarschema_str-made.ensures.consistent)
     (schema-told c.args.text.now (extension_words c.args.extensions.now) {T = Made} c.from_cedarschema_str-made.result c.from_cedarschema_str-made.ensures.refused)
     c.report_made-status.ensures
