@@ -7,7 +7,7 @@ use Rattle.cedar_data.specs.declared.memory.Failure.TheVariants as failures
 use Rattle.cedar_commands.specs.declared.command.Command.{Command}
 use Rattle.cedar_commands.specs.declared.status.Status.{Status}
 use Rattle.cedar_commands.specs.declared.status.Status.TheVariants.{Done, Refused, Usage, ReadFault, WriteFault, NotUtf8, TooLong, NoMemory}
-use Rattle.cedar_answers.specs.Answers.{Sunk, Puts, Rejects, Answers, IsAcceptance}
+use Rattle.cedar_answers.specs.Answers.{Sunk, sunk, Puts, Rejects, Answers, IsAcceptance}
 use Rattle.cedar_answers.specs.Made.{AnswersMade}
 use Rattle.cedar_answers.specs.Making.{Makes, Tells}
 
@@ -59,10 +59,6 @@ module _ {T E : Type 0} (due_of : T → List ℕ) (told_of : E → List ℕ) (ou
   accepts Gives (Ok m) accepted a = puts-accepts (due_of m) out out' status a.0
   accepts Gives (Err (failures.Refused e)) accepted a = absurd accepted
   accepts Gives (Err failures.NoMemory) accepted a = subst IsAcceptance (sym a.0) tt
-
--- what is known of a sink
-abbrev pub sunk : {K : Type 0} → (K → Option (List ℕ)) → (K → ℕ) → K → Sunk
-sunk written faults sink = record { bytes = written sink; faults = faults sink }
 
 -- the same of two sinks, before and after
 module _ {K L : Type 0} (out_written : K → Option (List ℕ)) (out_faults : K → ℕ) (err_written : L → Option (List ℕ)) (err_faults : L → ℕ) (out out' : K) (err err' : L) (status : Status) where

@@ -11,6 +11,10 @@ pub record Sunk : Type 0 where
   pub bytes : Option (List ℕ)
   pub faults : ℕ
 
+-- what is known of this sink, by what one of its type tells of its bytes and of its faults
+abbrev pub sunk : {K : Type 0} → (K → Option (List ℕ)) → (K → ℕ) → K → Sunk
+sunk written faults sink = record { bytes = written sink; faults = faults sink }
+
 -- writing a text that is due: it is written and the sink didn't fail, or the sink failed and took a front of it
 abbrev pub Puts : List ℕ → Sunk → Sunk → Status → Type 0
 Puts due before after Done = Takes before.bytes after.bytes due × (after.faults ≡ before.faults)

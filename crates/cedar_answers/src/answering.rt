@@ -1,5 +1,5 @@
 // SPDX-License-Identifier: Apache-2.0
-ghost use Rattle.cedar_answers.specs.Answers.{Answers, IsAcceptance};
+ghost use Rattle.cedar_answers.specs.Answers.{Answers, IsAcceptance, sunk};
 ghost use Rattle.cedar_answers.specs.Making.{Accepts, Makes, Tells};
 ghost use Rattle.cedar_names.specs.Extensions.{extension_words};
 
@@ -28,10 +28,8 @@ pub fn answer_text<K: Sink, E: Sink>(
     // What was written, by the status.
     ensures answers { Answers (Makes command text.now (extension_words extensions.now))
         (Tells command text.now (extension_words extensions.now))
-        (record { bytes = K.written out.old; faults = K.faults out.old })
-        (record { bytes = K.written out.new; faults = K.faults out.new })
-        (record { bytes = E.written err.old; faults = E.faults err.old })
-        (record { bytes = E.written err.new; faults = E.faults err.new }) result }
+        (sunk K.written K.faults out.old) (sunk K.written K.faults out.new)
+        (sunk E.written E.faults err.old) (sunk E.written E.faults err.new) result }
 
     // A text that the command accepts is not refused.
     ensures accepts { Accepts command text.now (extension_words extensions.now)

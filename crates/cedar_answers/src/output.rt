@@ -1,6 +1,6 @@
 // SPDX-License-Identifier: Apache-2.0
 ghost use Rattle.std.specs.String.{string_bytes};
-ghost use Rattle.cedar_answers.specs.Answers.{Puts, Rejects};
+ghost use Rattle.cedar_answers.specs.Answers.{Puts, Rejects, sunk};
 ghost use Rattle.cedar_answers.specs.Made.{AnswersMade};
 ghost use Rattle.cedar_reviews.specs.Refusal.{refusal_text};
 ghost use Rattle.cedar_listing.specs.Counts.{counts};
@@ -23,8 +23,7 @@ pub(crate) fn list<K: Sink>(
     out: &mut K,
 ) -> Status
     ensures { Puts (listing schema.now warnings.now)
-        (record { bytes = K.written out.old; faults = K.faults out.old })
-        (record { bytes = K.written out.new; faults = K.faults out.new }) result }
+        (sunk K.written K.faults out.old) (sunk K.written K.faults out.new) result }
 {
     match write_listing(schema, warnings, out) {
         Ok(()) => Status::Done,
@@ -39,8 +38,7 @@ pub(crate) fn count<K: Sink>(
     out: &mut K,
 ) -> Status
     ensures { Puts (counts schema.now warnings.now)
-        (record { bytes = K.written out.old; faults = K.faults out.old })
-        (record { bytes = K.written out.new; faults = K.faults out.new }) result }
+        (sunk K.written K.faults out.old) (sunk K.written K.faults out.new) result }
 {
     match write_counts(schema, warnings, out) {
         Ok(()) => Status::Done,
@@ -51,8 +49,7 @@ pub(crate) fn count<K: Sink>(
 /// Writes a text that is due.
 fn put_text<K: Sink>(text: &str, out: &mut K) -> Status
     ensures { Puts text.now
-        (record { bytes = K.written out.old; faults = K.faults out.old })
-        (record { bytes = K.written out.new; faults = K.faults out.new }) result }
+        (sunk K.written K.faults out.old) (sunk K.written K.faults out.new) result }
 {
     match write_str(out, text) {
         Ok(()) => Status::Done,
@@ -63,8 +60,7 @@ fn put_text<K: Sink>(text: &str, out: &mut K) -> Status
 /// Writes what is told of a refusal.
 fn reject<E: Sink>(told: &str, err: &mut E) -> Status
     ensures { Rejects told.now
-        (record { bytes = E.written err.old; faults = E.faults err.old })
-        (record { bytes = E.written err.new; faults = E.faults err.new }) result }
+        (sunk E.written E.faults err.old) (sunk E.written E.faults err.new) result }
 {
     match write_str(err, told) {
         Ok(()) => Status::Refused,
@@ -75,8 +71,7 @@ fn reject<E: Sink>(told: &str, err: &mut E) -> Status
 /// Writes a refusal. Its memory is taken before its first byte is written.
 pub(crate) fn refuse<E: Sink>(alloc: Global, error: &CedarSchemaError, err: &mut E) -> Status
     ensures { Rejects (refusal_text error.now)
-        (record { bytes = E.written err.old; faults = E.faults err.old })
-        (record { bytes = E.written err.new; faults = E.faults err.new }) result }
+        (sunk E.written E.faults err.old) (sunk E.written E.faults err.new) result }
 {
     let Ok(told) = refusal_text(alloc, error) else {
         return Status::NoMemory;
@@ -91,10 +86,8 @@ pub(crate) fn answer_written<K: Sink, E: Sink>(
     err: &mut E,
 ) -> Status
     ensures { AnswersMade string_bytes string_bytes made.now
-        (record { bytes = K.written out.old; faults = K.faults out.old })
-        (record { bytes = K.written out.new; faults = K.faults out.new })
-        (record { bytes = E.written err.old; faults = E.faults err.old })
-        (record { bytes = E.written err.new; faults = E.faults err.new }) result }
+        (sunk K.written K.faults out.old) (sunk K.written K.faults out.new)
+        (sunk E.written E.faults err.old) (sunk E.written E.faults err.new) result }
 {
     match made {
         Ok(text) => put_text(text.as_str(), out),

@@ -1,5 +1,5 @@
 // SPDX-License-Identifier: Apache-2.0
-ghost use Rattle.cedar_answers.specs.Answers.{Answers, IsAcceptance, Puts};
+ghost use Rattle.cedar_answers.specs.Answers.{Answers, IsAcceptance, Puts, sunk};
 ghost use Rattle.cedar_answers.specs.Made.{AnswersMade};
 ghost use Rattle.cedar_answers.specs.Making.{DenotesAny, MakesReport, report_text};
 ghost use Rattle.cedar_reviews.specs.Holding.{TellsNoSchema};
@@ -34,8 +34,7 @@ fn write_report<K: Sink>(
     out: &mut K,
 ) -> Status
     ensures { Puts (report_text report schema.now warnings.now)
-        (record { bytes = K.written out.old; faults = K.faults out.old })
-        (record { bytes = K.written out.new; faults = K.faults out.new }) result }
+        (sunk K.written K.faults out.old) (sunk K.written K.faults out.new) result }
 {
     match report {
         Report::Listing => list(schema, warnings, out),
@@ -55,10 +54,8 @@ pub(crate) fn answer_report<K: Sink, E: Sink>(
 ) -> Status
     ensures answers { Answers (MakesReport report text.now (extension_words extensions.now))
         (TellsNoSchema text.now (extension_words extensions.now))
-        (record { bytes = K.written out.old; faults = K.faults out.old })
-        (record { bytes = K.written out.new; faults = K.faults out.new })
-        (record { bytes = E.written err.old; faults = E.faults err.old })
-        (record { bytes = E.written err.new; faults = E.faults err.new }) result }
+        (sunk K.written K.faults out.old) (sunk K.written K.faults out.new)
+        (sunk E.written E.faults err.old) (sunk E.written E.faults err.new) result }
     ensures accepts { DenotesAny text.now (extension_words extensions.now) → IsAcceptance result }
 {
     let made = ValidatorSchema::from_cedarschema_str(alloc, text, extensions);
@@ -76,10 +73,8 @@ fn report_made<K: Sink, E: Sink>(
     err: &mut E,
 ) -> Status
     ensures { AnswersMade (λ made. report_text report made.0 made.1.items) refusal_text made.now
-        (record { bytes = K.written out.old; faults = K.faults out.old })
-        (record { bytes = K.written out.new; faults = K.faults out.new })
-        (record { bytes = E.written err.old; faults = E.faults err.old })
-        (record { bytes = E.written err.new; faults = E.faults err.new }) result }
+        (sunk K.written K.faults out.old) (sunk K.written K.faults out.new)
+        (sunk E.written E.faults err.old) (sunk E.written E.faults err.new) result }
 {
     match made {
         Ok((schema, warnings)) => write_report(report, schema, warnings.as_slice(), out),

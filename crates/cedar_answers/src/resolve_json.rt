@@ -1,6 +1,6 @@
 // SPDX-License-Identifier: Apache-2.0
 ghost use Rattle.std.specs.Prelude.{⊤, [], IfOk};
-ghost use Rattle.cedar_answers.specs.Answers.{Answers, IsAcceptance};
+ghost use Rattle.cedar_answers.specs.Answers.{Answers, IsAcceptance, sunk};
 ghost use Rattle.cedar_answers.specs.Causes.{JsonTextCause};
 ghost use Rattle.cedar_answers.specs.Made.{AnswersMade};
 ghost use Rattle.cedar_answers.specs.Making.{DenotesAnyInJson, IsJsonSchemaOf, MakesJsonListing, TellsNoJsonSchema};
@@ -29,10 +29,8 @@ pub(crate) fn answer_resolve_json<K: Sink, E: Sink>(
 ) -> Status
     ensures answers { Answers (MakesJsonListing text.now (extension_words extensions.now))
         (TellsNoJsonSchema text.now (extension_words extensions.now))
-        (record { bytes = K.written out.old; faults = K.faults out.old })
-        (record { bytes = K.written out.new; faults = K.faults out.new })
-        (record { bytes = E.written err.old; faults = E.faults err.old })
-        (record { bytes = E.written err.new; faults = E.faults err.new }) result }
+        (sunk K.written K.faults out.old) (sunk K.written K.faults out.new)
+        (sunk E.written E.faults err.old) (sunk E.written E.faults err.new) result }
     ensures accepts { DenotesAnyInJson text.now (extension_words extensions.now)
         → IsAcceptance result }
 {
@@ -68,10 +66,8 @@ fn answer_json_listing<K: Sink, E: Sink>(
     err: &mut E,
 ) -> Status
     ensures { AnswersMade (λ schema. listing schema []) refusal_text made.now
-        (record { bytes = K.written out.old; faults = K.faults out.old })
-        (record { bytes = K.written out.new; faults = K.faults out.new })
-        (record { bytes = E.written err.old; faults = E.faults err.old })
-        (record { bytes = E.written err.new; faults = E.faults err.new }) result }
+        (sunk K.written K.faults out.old) (sunk K.written K.faults out.new)
+        (sunk E.written E.faults err.old) (sunk E.written E.faults err.new) result }
 {
     match made {
         Ok(schema) => list(schema, &[], out),

@@ -1,5 +1,5 @@
 // SPDX-License-Identifier: Apache-2.0
-ghost use Rattle.cedar_answers.specs.Answers.{Answers, IsAcceptance};
+ghost use Rattle.cedar_answers.specs.Answers.{Answers, IsAcceptance, sunk};
 ghost use Rattle.cedar_names.specs.Extensions.{extension_words};
 ghost use Rattle.cedar_reviews.specs.Reviewing.{IsReviewable, MakesReview, TellsReview};
 
@@ -21,10 +21,8 @@ pub(crate) fn answer_review<K: Sink, E: Sink>(
 ) -> Status
     ensures answers { Answers (MakesReview review text.now (extension_words extensions.now))
         (TellsReview review text.now (extension_words extensions.now))
-        (record { bytes = K.written out.old; faults = K.faults out.old })
-        (record { bytes = K.written out.new; faults = K.faults out.new })
-        (record { bytes = E.written err.old; faults = E.faults err.old })
-        (record { bytes = E.written err.new; faults = E.faults err.new }) result }
+        (sunk K.written K.faults out.old) (sunk K.written K.faults out.new)
+        (sunk E.written E.faults err.old) (sunk E.written E.faults err.new) result }
     ensures accepts { IsReviewable review text.now (extension_words extensions.now)
         → IsAcceptance result }
 {

@@ -1,7 +1,7 @@
 // SPDX-License-Identifier: Apache-2.0
 ghost use Rattle.std.specs.Prelude.{⊤, IfOk};
 ghost use Rattle.std.specs.String.{string_bytes};
-ghost use Rattle.cedar_answers.specs.Answers.{Answers, IsAcceptance};
+ghost use Rattle.cedar_answers.specs.Answers.{Answers, IsAcceptance, sunk};
 ghost use Rattle.cedar_answers.specs.Making.{CanBePrinted, MakesCedar};
 ghost use Rattle.cedar_answers.specs.Printing.{TellsUnprintable};
 ghost use Rattle.cedar_data.specs.Answers.{Accepts, IfRefused};
@@ -28,10 +28,8 @@ pub(crate) fn answer_to_cedar<K: Sink, E: Sink>(
     err: &mut E,
 ) -> Status
     ensures answers { Answers (MakesCedar text.now) (TellsUnprintable text.now)
-        (record { bytes = K.written out.old; faults = K.faults out.old })
-        (record { bytes = K.written out.new; faults = K.faults out.new })
-        (record { bytes = E.written err.old; faults = E.faults err.old })
-        (record { bytes = E.written err.new; faults = E.faults err.new }) result }
+        (sunk K.written K.faults out.old) (sunk K.written K.faults out.new)
+        (sunk E.written E.faults err.old) (sunk E.written E.faults err.new) result }
     ensures accepts { ((F : Shaped Raw over_raw) × CanBePrinted text.now F) → IsAcceptance result }
 {
     let made = cedar_text(alloc, text);

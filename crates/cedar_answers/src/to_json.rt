@@ -2,7 +2,7 @@
 ghost use Rattle.std.specs.Prelude.{◌≡◌, ◌++◌, ⊤, codes, IfOk};
 ghost use Rattle.std.specs.String.{string_bytes};
 ghost use Rattle.serde_json.specs.Written.{compact_text};
-ghost use Rattle.cedar_answers.specs.Answers.{Answers, IsAcceptance};
+ghost use Rattle.cedar_answers.specs.Answers.{Answers, IsAcceptance, sunk};
 ghost use Rattle.cedar_answers.specs.Making.{DeclaresAny, MakesJson};
 ghost use Rattle.cedar_data.specs.Answers.{Accepts, IfRefused};
 ghost use Rattle.cedar_json_write.specs.Written.{fragment_json};
@@ -31,10 +31,8 @@ pub(crate) fn answer_to_json<K: Sink, E: Sink>(
 ) -> Status
     ensures answers { Answers (MakesJson text.now (extension_words extensions.now))
         (TellsNoDeclaration text.now)
-        (record { bytes = K.written out.old; faults = K.faults out.old })
-        (record { bytes = K.written out.new; faults = K.faults out.new })
-        (record { bytes = E.written err.old; faults = E.faults err.old })
-        (record { bytes = E.written err.new; faults = E.faults err.new }) result }
+        (sunk K.written K.faults out.old) (sunk K.written K.faults out.new)
+        (sunk E.written E.faults err.old) (sunk E.written E.faults err.new) result }
     ensures accepts { DeclaresAny text.now (extension_words extensions.now) → IsAcceptance result }
 {
     let made = json_line(alloc, text, extensions);

@@ -22,6 +22,18 @@ pub record Streams : Type 0 where
   pub err : Option (List ℕ)
   pub err_faults : ℕ
 
+-- what is known of this source and of these two sinks, each by what one of its type tells of its bytes and of its faults
+abbrev pub streams :
+    {S K E : Type 0} → (S → Option (List ℕ)) → (S → ℕ) → S → (K → Option (List ℕ)) → (K → ℕ) → K → (E → Option (List ℕ)) → (E → ℕ) → E → Streams
+streams left read_faults source out_written out_faults out err_written err_faults err = record {
+  left = left source;
+  read_faults = read_faults source;
+  out = out_written out;
+  out_faults = out_faults out;
+  err = err_written err;
+  err_faults = err_faults err;
+}
+
 -- how many bytes a text may have
 abbrev pub longest_text : ℕ
 longest_text = 4194304

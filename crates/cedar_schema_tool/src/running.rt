@@ -1,13 +1,13 @@
 // SPDX-License-Identifier: Apache-2.0
 ghost use Rattle.std.specs.Prelude.{map};
 ghost use Rattle.std.specs.String.{string_bytes};
-ghost use Rattle.cedar_answers.specs.Answers.{IsAcceptance};
+ghost use Rattle.cedar_answers.specs.Answers.{IsAcceptance, sunk};
 ghost use Rattle.cedar_answers.specs.Making.{Accepts};
 ghost use Rattle.cedar_commands.specs.declared.command.Command.TheVariants.{Bench};
 ghost use Rattle.cedar_generator.specs.Generated.{generated};
 ghost use Rattle.cedar_names.specs.Extensions.{extension_words};
 ghost use Rattle.cedar_schema_tool.specs.Answering.{AcceptsBytes, AcceptsSource, AnswersBytes, AnswersSource, AnswersText};
-ghost use Rattle.cedar_schema_tool.specs.Running.{AcceptsGiven, Runs};
+ghost use Rattle.cedar_schema_tool.specs.Running.{AcceptsGiven, Runs, streams};
 
 use cedar_answers::answer_text;
 use cedar_commands::{Command, Status, asked};
@@ -34,13 +34,13 @@ pub fn run<S: Source, K: Sink, E: Sink>(
 ) -> Status
     // What was read and written, by the status.
     ensures runs { Runs (map string_bytes words.now)
-        (record { left = S.left source.old; read_faults = S.faults source.old; out = K.written out.old; out_faults = K.faults out.old; err = E.written err.old; err_faults = E.faults err.old })
-        (record { left = S.left source.new; read_faults = S.faults source.new; out = K.written out.new; out_faults = K.faults out.new; err = E.written err.new; err_faults = E.faults err.new })
+        (streams S.left S.faults source.old K.written K.faults out.old E.written E.faults err.old)
+        (streams S.left S.faults source.new K.written K.faults out.new E.written E.faults err.new)
         result }
 
     // A text that the command accepts is accepted.
     ensures accepts { AcceptsGiven (map string_bytes words.now)
-        (record { left = S.left source.old; read_faults = S.faults source.old; out = K.written out.old; out_faults = K.faults out.old; err = E.written err.old; err_faults = E.faults err.old })
+        (streams S.left S.faults source.old K.written K.faults out.old E.written E.faults err.old)
         result }
 {
     let (command, extensions) = match asked(alloc, words) {
@@ -63,10 +63,8 @@ fn answer_generated<K: Sink, E: Sink>(
     err: &mut E,
 ) -> Status
     ensures answers { AnswersText (Bench size) (generated size) (extension_words extensions.now)
-        (record { bytes = K.written out.old; faults = K.faults out.old })
-        (record { bytes = K.written out.new; faults = K.faults out.new })
-        (record { bytes = E.written err.old; faults = E.faults err.old })
-        (record { bytes = E.written err.new; faults = E.faults err.new })
+        (sunk K.written K.faults out.old) (sunk K.written K.faults out.new)
+        (sunk E.written E.faults err.old) (sunk E.written E.faults err.new)
         result }
     ensures accepts { Accepts (Bench size) (generated size) (extension_words extensions.now)
         → IsAcceptance result }
@@ -94,8 +92,8 @@ fn answer_source<S: Source, K: Sink, E: Sink>(
     err: &mut E,
 ) -> Status
     ensures answers { AnswersSource command (extension_words extensions.now)
-        (record { left = S.left source.old; read_faults = S.faults source.old; out = K.written out.old; out_faults = K.faults out.old; err = E.written err.old; err_faults = E.faults err.old })
-        (record { left = S.left source.new; read_faults = S.faults source.new; out = K.written out.new; out_faults = K.faults out.new; err = E.written err.new; err_faults = E.faults err.new })
+        (streams S.left S.faults source.old K.written K.faults out.old E.written E.faults err.old)
+        (streams S.left S.faults source.new K.written K.faults out.new E.written E.faults err.new)
         result }
     ensures accepts { AcceptsSource command (extension_words extensions.now)
         (S.left source.old) result }
@@ -118,10 +116,8 @@ fn answer_bytes<K: Sink, E: Sink>(
     err: &mut E,
 ) -> Status
     ensures answers { AnswersBytes command bytes.now (extension_words extensions.now)
-        (record { bytes = K.written out.old; faults = K.faults out.old })
-        (record { bytes = K.written out.new; faults = K.faults out.new })
-        (record { bytes = E.written err.old; faults = E.faults err.old })
-        (record { bytes = E.written err.new; faults = E.faults err.new })
+        (sunk K.written K.faults out.old) (sunk K.written K.faults out.new)
+        (sunk E.written E.faults err.old) (sunk E.written E.faults err.new)
         result }
     ensures accepts { AcceptsBytes command bytes.now (extension_words extensions.now) result }
 {
