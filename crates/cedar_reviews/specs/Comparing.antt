@@ -7,11 +7,9 @@ use Rattle.cedar_compat.specs.Compatible.{Compatible}
 use Rattle.cedar_compat.specs.FaultTexts.{fault_text}
 use Rattle.cedar_compat.specs.declared.fault.CompatFault.{CompatFault}
 use Rattle.cedar_envelope.specs.Envelopes.{Contents, HoldsText, IsEnvelope}
-use Rattle.cedar_schema.specs.Texts.{TextCause}
-use Rattle.cedar_schema_errors.specs.declared.schema_error.CedarSchemaError.{CedarSchemaError}
 use Rattle.cedar_world.specs.Schemas.{Schema}
-use Rattle.cedar_reviews.specs.Holding.{Denotes, TellsEnvelope}
-use Rattle.cedar_reviews.specs.Refusal.{error_line, labelled_refusal}
+use Rattle.cedar_reviews.specs.Holding.{Denotes, TellsEnvelope, TellsLabelled}
+use Rattle.cedar_reviews.specs.Refusal.{error_line}
 
 -- the keys of the two schemas
 abbrev pub schema_keys : List (List ℕ)
@@ -24,10 +22,6 @@ HoldsTexts input old new = (c : Contents) × IsEnvelope input schema_keys [] c �
 -- both texts denote schemas, and the new one takes what the old one takes
 abbrev pub AreCompatible : List ℕ → List ℕ → List (List ℕ) → Type 0
 AreCompatible old new extensions = (S R : Schema) × Denotes old extensions S × Denotes new extensions R × Compatible S R
-
--- the text denotes no schema, and this is told of it behind a label
-abbrev pub TellsLabelled : List ℕ → List ℕ → List (List ℕ) → List ℕ → Type 0
-TellsLabelled label text extensions told = (e : CedarSchemaError) × TextCause text extensions e × (told ≡ labelled_refusal label e)
 
 -- the first break is told
 abbrev pub TellsBreak : Schema → Schema → List ℕ → Type 0

@@ -10,7 +10,7 @@ use Rattle.cedar_schema.specs.Texts.{DenotesSchema, ParsingCause, TextCause}
 use Rattle.cedar_convert_warnings.specs.declared.warnings.SchemaWarning.{SchemaWarning}
 use Rattle.cedar_schema_errors.specs.declared.schema_error.CedarSchemaError.{CedarSchemaError}
 use Rattle.cedar_world.specs.Schemas.{Schema}
-use Rattle.cedar_reviews.specs.Refusal.{error_line, refusal_text}
+use Rattle.cedar_reviews.specs.Refusal.{error_line, labelled_refusal, refusal_text}
 
 -- the input is an object with a text at the first key and a value at the second, and these are they
 abbrev pub HoldsTextAndValue : List ℕ → List ℕ → List ℕ → List ℕ → Data → Type 0
@@ -33,3 +33,7 @@ TellsNoDeclaration text told = (e : CedarSchemaError) × ParsingCause text e × 
 -- a text denotes no schema, and this is told of it
 abbrev pub TellsNoSchema : List ℕ → List (List ℕ) → List ℕ → Type 0
 TellsNoSchema text extensions told = (e : CedarSchemaError) × TextCause text extensions e × (told ≡ refusal_text e)
+
+-- a text denotes no schema, and this is told of it behind a label
+abbrev pub TellsLabelled : List ℕ → List ℕ → List (List ℕ) → List ℕ → Type 0
+TellsLabelled label text extensions told = (e : CedarSchemaError) × TextCause text extensions e × (told ≡ labelled_refusal label e)

@@ -5,20 +5,19 @@ ghost use Rattle.cedar_compat.specs.Compatible.{Compatible};
 ghost use Rattle.cedar_data.specs.Answers.{IfRefused};
 ghost use Rattle.cedar_envelope.specs.Envelopes.{IsEnvelope, contents};
 ghost use Rattle.cedar_names.specs.Extensions.{extension_words};
-ghost use Rattle.cedar_reviews.specs.Comparing.{AreCompatible, HoldsCompatible, HoldsIncompatible, MakesComparison, TellsBreak, TellsComparison, TellsIncompatible, TellsLabelled, TellsNew, schema_keys};
+ghost use Rattle.cedar_reviews.specs.Comparing.{AreCompatible, HoldsCompatible, HoldsIncompatible, MakesComparison, TellsBreak, TellsComparison, TellsIncompatible, TellsNew, schema_keys};
 ghost use Rattle.cedar_reviews.specs.Holding.{Denotes, TellsEnvelope};
 ghost use Rattle.cedar_schema.specs.SchemaViews.{schema_in};
 ghost use Rattle.cedar_text.specs.Words.{has_word};
 ghost use Rattle.cedar_world.specs.Schemas.{Schema};
 
-use crate::holding::opened;
-use crate::refusal::{refused_behind, refused_by};
+use crate::holding::{denoted, opened};
+use crate::refusal::refused_by;
 use cedar_compat::compatible;
 use cedar_data::{Failure, Out, Text};
 use cedar_envelope::Envelope;
 use cedar_names::Extensions;
 use cedar_resolved::ValidatorSchema;
-use cedar_schema::FromCedarSchema;
 use std::alloc::Global;
 
 /// What is written where the schema that the text at the key `new` of the input, an object in JSON, denotes takes what that
@@ -78,7 +77,7 @@ fn compare_texts(
     ensures told { IfRefused result (λ told.
         TellsIncompatible old.now new.now (extension_words extensions.now) (string_bytes told)) }
 {
-    let schema = denoted_behind(alloc, "old: ", old, extensions)?;
+    let schema = denoted(alloc, "old: ", old, extensions)?;
     let answer = compare_to_text(alloc, &schema, new, extensions);
     drop(schema);
     answer
@@ -97,7 +96,7 @@ fn compare_to_text(
     ensures told { IfRefused result (λ told.
         TellsNew (schema_in old.now) new.now (extension_words extensions.now) (string_bytes told)) }
 {
-    let schema = denoted_behind(alloc, "new: ", new, extensions)?;
+    let schema = denoted(alloc, "new: ", new, extensions)?;
     let answer = compare_schemas(alloc, old, &schema);
     drop(schema);
     answer
@@ -121,25 +120,6 @@ fn compare_schemas(
             Ok(due)
         }
         Err(Failure::Refused(fault)) => refused_by(alloc, fault),
-        Err(Failure::NoMemory) => Err(Failure::NoMemory),
-    }
-}
-
-/// The schema that the text denotes; where it denotes none, that is told behind a label.
-fn denoted_behind(
-    alloc: Global,
-    label: &str,
-    text: &str,
-    extensions: &Extensions,
-) -> Out<ValidatorSchema, String>
-    ensures denotes { IfOk result
-        (λ schema. Denotes text.now (extension_words extensions.now) (schema_in schema)) }
-    ensures told { IfRefused result (λ told.
-        TellsLabelled label.now text.now (extension_words extensions.now) (string_bytes told)) }
-{
-    match ValidatorSchema::from_cedarschema_str(alloc, text, extensions) {
-        Ok((schema, _)) => Ok(schema),
-        Err(Failure::Refused(error)) => refused_behind(alloc, label, error),
         Err(Failure::NoMemory) => Err(Failure::NoMemory),
     }
 }

@@ -6,11 +6,11 @@ ghost use Rattle.std.specs.String.{string_bytes};
 ghost use Rattle.cedar_data.specs.Answers.{Accepts, IfRefused};
 ghost use Rattle.cedar_envelope.specs.Envelopes.{IsEnvelope, contents};
 ghost use Rattle.cedar_names.specs.Extensions.{extension_words};
-ghost use Rattle.cedar_reviews.specs.Holding.{Denotes, TellsEnvelope, TellsNoSchema};
+ghost use Rattle.cedar_reviews.specs.Holding.{Denotes, TellsEnvelope, TellsLabelled};
 ghost use Rattle.cedar_schema.specs.SchemaViews.{schema_in};
 ghost use Rattle.cedar_world.specs.Schemas.{Schema};
 
-use crate::refusal::{refused, refused_by};
+use crate::refusal::{refused_behind, refused_by};
 use cedar_data::{Failure, Out, Text};
 use cedar_envelope::{Envelope, read_envelope};
 use cedar_names::Extensions;
@@ -37,22 +37,23 @@ pub(crate) fn opened(
     }
 }
 
-/// The schema that the text denotes.
+/// The schema that the text denotes; where it denotes none, that is told behind a label.
 pub(crate) fn denoted(
     alloc: Global,
+    label: &str,
     text: &str,
     extensions: &Extensions,
 ) -> Out<ValidatorSchema, String>
     ensures denotes { IfOk result
         (λ schema. Denotes text.now (extension_words extensions.now) (schema_in schema)) }
-    ensures told { IfRefused result
-        (λ told. TellsNoSchema text.now (extension_words extensions.now) (string_bytes told)) }
+    ensures told { IfRefused result (λ told.
+        TellsLabelled label.now text.now (extension_words extensions.now) (string_bytes told)) }
     ensures accepts { (S : Schema) → Denotes text.now (extension_words extensions.now) S
         → Accepts (λ schema. schema_in schema ≡ S) result }
 {
     match ValidatorSchema::from_cedarschema_str(alloc, text, extensions) {
         Ok((schema, _)) => Ok(schema),
-        Err(Failure::Refused(error)) => refused(alloc, error),
+        Err(Failure::Refused(error)) => refused_behind(alloc, label, error),
         Err(Failure::NoMemory) => Err(Failure::NoMemory),
     }
 }

@@ -103,7 +103,7 @@ fn judge_by_text(
         → IsRightBy judged text.now (extension_words extensions.now) (view value.now) due
         → Accepts (λ _. ⊤) result }
 {
-    let schema = denoted(alloc, text, extensions)?;
+    let schema = denoted(alloc, "", text, extensions)?;
     let answer = judge_by(alloc, judged, &schema, value);
     drop(schema);
     answer

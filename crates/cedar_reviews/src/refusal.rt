@@ -37,8 +37,7 @@ pub fn refused<T>(alloc: Global, error: CedarSchemaError) -> Out<T, String>
     ensures never { IsErr result }
     ensures told { IfRefused result (λ told. string_bytes told ≡ refusal_text error) }
 {
-    let told = refusal_text(alloc, &error)?;
-    Err(Failure::Refused(told))
+    refused_behind(alloc, "", error)
 }
 
 /// The refusal with the lines that are printed of an error behind a label.
