@@ -6,7 +6,7 @@ mod process;
 mod running;
 
 pub use cedar_answers::{write_counts, write_listing};
-pub use cedar_commands::{Command, Status, asked};
+pub use cedar_commands::{Command, Review, Status, asked};
 pub use cedar_generator::generate;
 pub use cedar_streams::{
     MemSink, MemSource, ReadStop, Reader, Sink, SinkFailed, Source, SourceFailed, StdSink,
