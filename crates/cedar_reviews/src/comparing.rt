@@ -20,8 +20,8 @@ use cedar_names::Extensions;
 use cedar_resolved::ValidatorSchema;
 use std::alloc::Global;
 
-/// What is written where the schema that the text at the key `new` of the input, an object in JSON, denotes takes what that
-/// at the key `old` takes; or else what is told of the first fault.
+/// What is written where the schema that the text at the key `new` of the input, an object in JSON, denotes takes
+/// what that at the key `old` takes; or else what is told of the first fault.
 pub(crate) fn compare(alloc: Global, input: &str, extensions: &Extensions) -> Out<String, String>
     ensures due { IfOk result (λ due.
         MakesComparison input.now (extension_words extensions.now) (string_bytes due)) }
@@ -44,7 +44,8 @@ fn schemas_opened(alloc: Global, input: &str) -> Out<Envelope, String>
     opened(alloc, input, &texts, &[])
 }
 
-/// The same of what an object holds at these keys.
+/// What is written where, of the texts that an object holds at `old` and `new`, the new one denotes a schema that
+/// takes what that of the old one takes; or else what is told of the first fault.
 fn compare_held(alloc: Global, envelope: &Envelope, extensions: &Extensions) -> Out<String, String>
     requires old { has_word (contents envelope.now).text_keys (codes "old") ≡ true }
     requires new { has_word (contents envelope.now).text_keys (codes "new") ≡ true }
@@ -64,7 +65,8 @@ fn compare_held(alloc: Global, envelope: &Envelope, extensions: &Extensions) -> 
     compare_texts(alloc, old, new, extensions)
 }
 
-/// The same of the texts of two schemas.
+/// What is written where the new text denotes a schema that takes what that of the old text takes; or else what is
+/// told of the first fault.
 fn compare_texts(
     alloc: Global,
     old: &str,
@@ -83,7 +85,8 @@ fn compare_texts(
     answer
 }
 
-/// The same of the old schema and of the text of the new one.
+/// What is written where the new text denotes a schema that takes what the old schema takes; or else what is told of
+/// the first fault.
 fn compare_to_text(
     alloc: Global,
     old: &ValidatorSchema,
@@ -102,7 +105,7 @@ fn compare_to_text(
     answer
 }
 
-/// The same of two schemas.
+/// What is written where the new schema takes what the old one takes; or else what is told of the first break.
 fn compare_schemas(
     alloc: Global,
     old: &ValidatorSchema,

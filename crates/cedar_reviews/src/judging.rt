@@ -24,8 +24,8 @@ use cedar_resolved::ValidatorSchema;
 use serde_json::Value;
 use std::alloc::Global;
 
-/// What is written where the data that the input holds, an object in JSON, is right by the schema that the text at the key
-/// `schema` denotes; or else what is told of the first fault.
+/// What is written where the data that the input holds, an object in JSON, is right by the schema that the text at
+/// the key `schema` denotes; or else what is told of the first fault.
 pub(crate) fn judge(
     alloc: Global,
     judged: Judged,
@@ -57,7 +57,8 @@ fn data_opened(alloc: Global, judged: Judged, input: &str) -> Out<Envelope, Stri
     opened(alloc, input, &texts, &values)
 }
 
-/// The same of what an object holds at these keys.
+/// What is written where the value that an object holds, at the key of what is judged, is right by the schema that
+/// its text at the key `schema` denotes; or else what is told of the first fault.
 fn judge_held(
     alloc: Global,
     judged: Judged,
@@ -85,7 +86,8 @@ fn judge_held(
     judge_by_text(alloc, judged, text, value, extensions)
 }
 
-/// The same of the text of a schema and of a value.
+/// What is written where the value is right by the schema that the text denotes; or else what is told of the first
+/// fault.
 fn judge_by_text(
     alloc: Global,
     judged: Judged,
@@ -109,7 +111,7 @@ fn judge_by_text(
     answer
 }
 
-/// The same of a schema and of a value.
+/// What is written where the value is right by the schema; or else what is told of its first fault.
 fn judge_by(
     alloc: Global,
     judged: Judged,
@@ -129,7 +131,8 @@ fn judge_by(
     }
 }
 
-/// The same of a list of entities.
+/// What is written where the value is a list of entities that are right by the schema; or else what is told of its
+/// first fault.
 fn judge_entities(alloc: Global, schema: &ValidatorSchema, value: &Value) -> Out<String, String>
     ensures due { IfOk result (λ due.
         IsRight Entities (schema_in schema.now) (view value.now) (string_bytes due)) }
@@ -148,7 +151,8 @@ fn judge_entities(alloc: Global, schema: &ValidatorSchema, value: &Value) -> Out
     }
 }
 
-/// The same of a list of requests.
+/// What is written where the value is a list of requests that are right by the schema; or else what is told of its
+/// first fault.
 fn judge_requests(alloc: Global, schema: &ValidatorSchema, value: &Value) -> Out<String, String>
     ensures due { IfOk result (λ due.
         IsRight Requests (schema_in schema.now) (view value.now) (string_bytes due)) }

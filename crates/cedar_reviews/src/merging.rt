@@ -23,8 +23,8 @@ use cedar_schema::FragmentText;
 use serde_json::Value;
 use std::alloc::Global;
 
-/// What is written of the schemas whose texts the input, an object in JSON, lists at the key `schemas`: what they declare
-/// together, in the human syntax; or else what is told of the first fault.
+/// What is written of the schemas whose texts the input, an object in JSON, lists at the key `schemas`: what they
+/// declare together, in the human syntax; or else what is told of the first fault.
 pub(crate) fn merge_schemas(
     alloc: Global,
     input: &str,
@@ -52,7 +52,8 @@ fn list_opened(alloc: Global, input: &str) -> Out<Envelope, String>
     opened(alloc, input, &[], &values)
 }
 
-/// The same of what an object holds at this key.
+/// What is written of the schemas whose texts an object lists at the key `schemas`; or else what is told of the first
+/// fault.
 fn merge_held(alloc: Global, envelope: &Envelope, extensions: &Extensions) -> Out<String, String>
     requires { has_word (contents envelope.now).value_keys (codes "schemas") ≡ true }
     ensures due { IfOk result (λ due.
@@ -66,7 +67,7 @@ fn merge_held(alloc: Global, envelope: &Envelope, extensions: &Extensions) -> Ou
     merge_value(alloc, value, extensions)
 }
 
-/// The same of a value.
+/// What is written of the schemas whose texts the value lists; or else what is told of the first fault.
 fn merge_value(alloc: Global, value: &Value, extensions: &Extensions) -> Out<String, String>
     ensures due { IfOk result (λ due.
         IsMergedAs (extension_words extensions.now) (view value.now) (string_bytes due)) }

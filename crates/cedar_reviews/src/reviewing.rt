@@ -14,8 +14,8 @@ use cedar_data::Out;
 use cedar_names::Extensions;
 use std::alloc::Global;
 
-/// What is written where the input, an object in JSON, passes the review with these extension types; or else what is told
-/// of its first fault.
+/// What is written where the input, an object in JSON, passes the review with these extension types; or else what is
+/// told of its first fault.
 #[tactic(auto, unfolding(crate::specs::Reviewing::MakesReview, crate::specs::Reviewing::TellsReview, crate::specs::Reviewing::IsReviewable))]
 pub fn reviewed(
     alloc: Global,
