@@ -3,6 +3,7 @@ pub use Rattle.cedar_phases.proofs.OneSchema
 pub use Rattle.cedar_phases.proofs.SomeSchema
 pub use Rattle.cedar_phases.proofs.Placing
 pub mod Declaring
+pub mod OtherFaults
 pub mod Refusing
 pub mod Fragmented
 pub mod Composing

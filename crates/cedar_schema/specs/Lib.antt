@@ -11,3 +11,4 @@ pub use Rattle.cedar_data.specs.formers
 pub mod Fragments
 pub mod DeclaredPlaces
 pub mod Texts
+pub mod Kept

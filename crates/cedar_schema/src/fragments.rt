@@ -1,5 +1,5 @@
 // SPDX-License-Identifier: Apache-2.0
-ghost use Rattle.std.specs.Prelude.{◌≡◌, [], map, IfOk};
+ghost use Rattle.std.specs.Prelude.{◌≡◌, [], true, map, IfOk};
 ghost use Rattle.std.specs.List.{flat_map};
 ghost use Rattle.cedar_fragment_world.specs.of_convert_fragment.Views.{definition_seen, fragment_seen};
 ghost use Rattle.cedar_data.specs.Answers.{IfRefused};
@@ -13,6 +13,8 @@ ghost use Rattle.cedar_phases.specs.Holding.{world_of};
 ghost use Rattle.cedar_phases.specs.Places.{IsPlaced};
 ghost use Rattle.cedar_phases.specs.SchemaViews.{IsConsistent, schema_in};
 ghost use Rattle.cedar_schema.specs.DeclaredPlaces.{places_of};
+ghost use Rattle.cedar_phases.specs.Kept.{is_missing};
+ghost use Rattle.cedar_schema.specs.Kept.{KeepsReferencesOf};
 ghost use Rattle.cedar_schema.specs.Fragments.{FragmentCause, SoundFragment, all_extensions, unnamed};
 ghost use Rattle.cedar_schema_error.specs.Told.{told};
 ghost use Rattle.cedar_schema_error.specs.declared.action_behavior.ActionBehavior.TheVariants.{ProhibitAttributes};
@@ -117,6 +119,9 @@ impl FromFragment for ValidatorSchema {
         ensures placed { IfOk result (IsPlaced (places_of (fragment_seen fragment))) }
         ensures refused { IfRefused result (λ e.
             FragmentCause ProhibitAttributes all_extensions (fragment_seen fragment) (told e)) }
+        // Of references that mean nothing, those of the fragment are kept, places and all.
+        ensures kept { IfRefused result (λ e. is_missing (told e) ≡ true
+            → KeepsReferencesOf all_extensions fragment e) }
     {
         let extensions = Extensions::all_available(alloc)?;
         ValidatorSchema::from_fragment_with(alloc, fragment, &extensions)
@@ -136,6 +141,8 @@ impl FromFragment for ValidatorSchema {
         ensures placed { IfOk result (IsPlaced (places_of (fragment_seen fragment))) }
         ensures refused { IfRefused result (λ e. FragmentCause ProhibitAttributes
             (extension_words extensions.now) (fragment_seen fragment) (told e)) }
+        ensures kept { IfRefused result (λ e. is_missing (told e) ≡ true
+            → KeepsReferencesOf (extension_words extensions.now) fragment e) }
     {
         match define_alone(alloc, fragment, extensions) {
             Ok(definitions) => {

@@ -1,5 +1,5 @@
 // SPDX-License-Identifier: Apache-2.0
-ghost use Rattle.std.specs.Prelude.{◌≡◌, List, IfOk};
+ghost use Rattle.std.specs.Prelude.{◌≡◌, true, List, IfOk};
 ghost use Rattle.cedar_fragment_world.specs.of_convert_fragment.Fragments.{Fragment as Declared};
 ghost use Rattle.cedar_fragment_world.specs.of_convert_fragment.Views.{fragment_seen};
 ghost use Rattle.cedar_schema_errors.specs.of_convert_text.Texts.{DeclaresText};
@@ -11,6 +11,11 @@ ghost use Rattle.cedar_phases.specs.Places.{IsPlaced};
 ghost use Rattle.cedar_phases.specs.SchemaViews.{IsConsistent, schema_in};
 ghost use Rattle.cedar_schema.specs.DeclaredPlaces.{IsPlacedBy, places_of};
 ghost use Rattle.cedar_schema.specs.Fragments.{SoundFragment, all_extensions};
+ghost use Rattle.cedar_schema.specs.Kept.{KeepsReferencesOf, KeepsReferencesOfText};
+ghost use Rattle.cedar_schema_error.specs.declared.schema_error.SchemaError.{SchemaError};
+ghost use Rattle.cedar_schema_errors.specs.declared.schema_error.CedarSchemaError.TheVariants.{Schema};
+ghost use Rattle.cedar_phases.specs.Kept.{is_missing};
+ghost use Rattle.cedar_schema_error.specs.Told.{told};
 ghost use Rattle.cedar_schema.specs.Texts.{DenotesSchema, IsWellFormed, ParsingCause, SchemaCause, TextCause};
 ghost use Rattle.cedar_schema_error.specs.declared.action_behavior.ActionBehavior.TheVariants.{ProhibitAttributes};
 ghost use Rattle.cedar_fragment_world.specs.of_world.Denotes.{Denotes};
@@ -94,6 +99,9 @@ fn with_schema(
         (λ made. IsPlaced (places_of (fragment_seen declared.0)) made.0) }
     ensures refused { IfRefused result
         (SchemaCause (extension_words extensions.now) (fragment_seen declared.0)) }
+    ensures kept { IfRefused result (λ error. (e : SchemaError) → error ≡ Schema e
+        → is_missing (told e) ≡ true
+        → KeepsReferencesOf (extension_words extensions.now) declared.0 e) }
 {
     let (fragment, warnings) = declared;
     match ValidatorSchema::from_fragment_with(alloc, fragment, extensions) {
@@ -116,6 +124,9 @@ impl FromCedarSchema for ValidatorSchema {
         ensures placed { IfOk result (λ made.
             IsPlacedBy src.now (extension_words extensions.now) made.0) }
         ensures refused { IfRefused result (TextCause src.now (extension_words extensions.now)) }
+        // Of references that mean nothing, those of the text are kept, places and all.
+        ensures kept { IfRefused result
+            (KeepsReferencesOfText src.now (extension_words extensions.now)) }
         ensures accepts { (F : Declared) (warned : List Warning)
             → IsWellFormed src.now (extension_words extensions.now) F warned
             → Accepts (λ made. Denotes (world_of_fragment F (extension_words extensions.now))
@@ -133,6 +144,7 @@ impl FromCedarSchema for ValidatorSchema {
         ensures consistent { IfOk result IsConsistent }
         ensures placed { IfOk result (IsPlacedBy src.now all_extensions) }
         ensures refused { IfRefused result (TextCause src.now all_extensions) }
+        ensures kept { IfRefused result (KeepsReferencesOfText src.now all_extensions) }
         ensures accepts { (F : Declared) (warned : List Warning)
             → IsWellFormed src.now all_extensions F warned
             → Accepts (λ schema. Denotes (world_of_fragment F all_extensions) (schema_in schema))
