@@ -9,6 +9,7 @@ ghost use Rattle.cedar_definitions.specs.Structures.{definitions_of};
 ghost use Rattle.cedar_definitions.specs.declared.structures.ValidatorSchemaFragment.{ValidatorSchemaFragment};
 ghost use Rattle.cedar_fragment.specs.ActionUids.{over_conditional};
 ghost use Rattle.cedar_fragment_world.specs.FragmentWorlds.{namespaces_of};
+ghost use Rattle.cedar_merge.specs.KeptNames.{KeepsNamespace};
 ghost use Rattle.cedar_merge.specs.Lookups.{Fragment as Held};
 ghost use Rattle.cedar_merge.specs.Merged.{Merged, NoClash, NoConflict};
 ghost use Rattle.cedar_merge.specs.Texts.{TellsClash, TellsConflict};
@@ -58,6 +59,7 @@ pub fn merge_as_one(
     ensures apart { IfOk result (λ _. NoClash fragments.items × NoConflict fragments.items) }
     ensures clash { IfRefused result (TellsClash fragments.items) }
     ensures conflict { IfRefused result (TellsConflict fragments.items) }
+    ensures kept { IfRefused result (KeepsNamespace fragments.items) }
     ensures together { IfOk result (MeansTogether fragments.items) }
 {
     meaning_together();
