@@ -11,6 +11,7 @@ mod Placed
 mod Printing
 mod SoundParts
 mod SoundTypes
+mod Told
 mod Wholes
 mod WorldPlaceless
 mod WorldReread

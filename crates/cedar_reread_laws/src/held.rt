@@ -19,17 +19,18 @@ ghost use Rattle.cedar_world.specs.Denotes.{Denotes};
 ghost use Rattle.cedar_world.specs.Schemas.{Schema};
 
 use crate::laws::{
-    what_is_printable_is_not_refused, what_is_printed_declares_it_again,
+    what_is_held_has_a_text, what_is_printable_is_not_refused, what_is_printed_declares_it_again,
     what_is_printed_denotes_the_same, what_is_read_again_denotes_the_same,
 };
 use cedar_fragment::{Fragment, RawName};
 use cedar_in_order::maps_in_order;
 
 /// The laws of printing and reading again, of a fragment that is held: its maps ascend at every depth, so nothing is asked
-/// of their order. A printable fragment isn't refused by the printer; where it is sound too, its text declares it as it is
-/// read again, which is sound and denotes the same; so the text is well formed and denotes what the fragment denotes. It
-/// goes through the maps, and changes nothing when it runs.
+/// of their order. It has a text, which is what the printer writes where it refuses nothing. A printable fragment isn't
+/// refused; where it is sound too, its text declares it as it is read again, which is sound and denotes the same; so the
+/// text is well formed and denotes what the fragment denotes. It goes through the maps, and changes nothing when it runs.
 pub fn printed_and_read_again(fragment: &Fragment<RawName>)
+    ensures shown { (source : List ℕ) × IsPrintOf source fragment.now }
     ensures not_refused { (X : Extensions)
         → IsPrintable (fragment_seen fragment.now) (extension_words X)
         → collisions fragment.now ≡ [] }
@@ -65,6 +66,7 @@ pub fn printed_and_read_again(fragment: &Fragment<RawName>)
         × text.DenotesSchema source (extension_words X) S warned }
 {
     maps_in_order(fragment);
+    what_is_held_has_a_text();
     what_is_printable_is_not_refused();
     what_is_printed_declares_it_again();
     what_is_read_again_denotes_the_same();

@@ -24,6 +24,11 @@ ghost use Rattle.cedar_written.specs.declared.raw_name.RawName.{RawName};
 
 use cedar_convert_laws::places_left_out;
 
+/// A law: each fragment has a text, whatever it says. It does nothing when it runs.
+pub fn what_is_held_has_a_text()
+    ensures { (F : held.Fragment RawName over_raw) → (source : List ℕ) × IsPrintOf source F }
+{}
+
 /// A law: a printable fragment has no name of a named namespace that is both an entity type and a common type, so its text
 /// isn't refused. It does nothing when it runs.
 pub fn what_is_printable_is_not_refused()

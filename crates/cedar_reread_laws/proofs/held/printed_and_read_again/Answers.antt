@@ -1,6 +1,9 @@
 -- SPDX-License-Identifier: Apache-2.0
 use Rattle.cedar_reread_laws.proofs.held.printed_and_read_again.Goals as goal
 
+pub returns-clause-shown : goal.returns-clause-shown
+returns-clause-shown c = c.what_is_held_has_a_text.ensures c.args.fragment.now
+
 pub returns-clause-not_refused : goal.returns-clause-not_refused
 returns-clause-not_refused c = λ X printable. c.what_is_printable_is_not_refused.ensures c.args.fragment.now X printable
 
