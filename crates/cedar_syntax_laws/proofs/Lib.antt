@@ -1,0 +1,5 @@
+-- SPDX-License-Identifier: Apache-2.0
+mod Grammar
+mod Marks
+mod Opening
+mod Whole
