@@ -4,3 +4,4 @@ mod Conditioned
 mod Lists
 mod Spaces
 mod Types
+mod Warnings
