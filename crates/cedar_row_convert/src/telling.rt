@@ -3,7 +3,7 @@ use cedar_convert_text::{
     CedarSchemaParseErrors, SchemaWarning, ToJsonSchemaError, ToJsonSchemaErrors,
     parse_cedar_schema_fragment,
 };
-use cedar_data::{Failure, Mem, NoMemory, Out};
+use cedar_data::{Dup, Failure, Mem, NoMemory, Out};
 use cedar_fragment::{Fragment, RawName};
 use cedar_names::Extensions;
 use cedar_row_fragments::{Writing, add_fragment};
@@ -24,8 +24,8 @@ pub fn fragment(alloc: Global, words: &[&str], input: &str) -> Mem<String> {
     told
 }
 
-/// The warnings of the names of the input, each with its places; or all that is wrong with the
-/// input.
+/// The warnings of the names of the input, each with its places, with its help where it has one, and with a line
+/// where a copy of it is another; or all that is wrong with the input.
 pub fn warnings(alloc: Global, input: &str) -> Mem<String> {
     let extensions = Extensions::all_available(alloc)?;
     let made = parse_cedar_schema_fragment(alloc, input, &extensions);
@@ -105,7 +105,20 @@ fn add_warning(writing: &mut Writing, warning: &SchemaWarning) -> Mem<()> {
     let line = format!(in writing.alloc; "{warning}\n")?;
     writing.add(line.as_str())?;
     let spans = warning.spans(writing.alloc)?;
-    add_spans(writing, spans.as_slice())
+    add_spans(writing, spans.as_slice())?;
+    if let Some(help) = warning.help(writing.alloc)? {
+        let line = format!(in writing.alloc; "  help: {help}\n")?;
+        writing.add(line.as_str())?;
+    }
+    add_copied(writing, warning)
+}
+
+/// Adds a line where a copy of the warning is another.
+fn add_copied(writing: &mut Writing, warning: &SchemaWarning) -> Mem<()> {
+    let copy = warning.dup(writing.alloc)?;
+    let is_same = copy == *warning;
+    drop(copy);
+    writing.add(if is_same { "" } else { "  copied as another\n" })
 }
 
 fn add_spans(writing: &mut Writing, spans: &[Span]) -> Mem<()> {
