@@ -5,7 +5,7 @@ use cedar_json_fault::{JsonDeserializationError, JsonFault};
 use std::alloc::Global;
 
 /// `json-fault [SHAPE]`: the first fault of the input as that shape, the numbers that it keeps, the
-/// keys and places that lead to it, a line each, and what to do about it.
+/// keys and places that lead to it, a line each, what to do about it, and each place in the text where it has one.
 pub fn json_fault(alloc: Global, words: &[&str], input: &str) -> Mem<String> {
     let reading = reading_of(alloc, words, input)?;
     reading_told(alloc, &reading)
@@ -32,6 +32,10 @@ fn told(alloc: Global, error: &JsonDeserializationError) -> Mem<String> {
     }
     if let Some(help) = error.help(alloc)? {
         let line = format!(in alloc; "help: {help}\n")?;
+        lines.push_str(line.as_str())?;
+    }
+    for place in error.spans(alloc)?.as_slice() {
+        let line = format!(in alloc; "place {}..{}\n", place.start, place.end)?;
         lines.push_str(line.as_str())?;
     }
     Ok(lines)
