@@ -12,6 +12,7 @@ mod Printing
 mod SoundParts
 mod SoundTypes
 mod Told
+mod Warned
 mod Wholes
 mod WorldPlaceless
 mod WorldReread

@@ -1,12 +1,12 @@
 -- SPDX-License-Identifier: Apache-2.0
 -- Tokens that say what a fragment says, wherever they stand, are a tree that is that of the fragment but for its places.
-use Rattle.std.proofs.Common.{◌≡◌, ◌≤◌, ℕ, zero, suc, List, [], ◌∷◌, map, fold, take, refl, sym, ap, ◌∙◌, subst}
+use Rattle.std.proofs.Common.{◌≡◌, ℕ, List, [], ◌∷◌, map, refl, sym, ap, ◌∙◌, subst}
 use Rattle.cedar_tokens.specs.Lexemes.{text_token}
 use Rattle.cedar_tokens.specs.declared.token.Token.{Token}
 use Rattle.cedar_tree.specs.Nesting.{NestsWell}
 use Rattle.cedar_tree.specs.Trees.{Schema}
 use Rattle.cedar_tree.specs.Unplaced.{schema_unplaced}
-use Rattle.cedar_grammar.specs.Grammar.{OpensAtMost, Reads, unclosed, unclosed_behind}
+use Rattle.cedar_grammar.specs.Grammar.{Reads}
 use Rattle.cedar_grammar.specs.Unplaced.{token_unplaced, tokens_unplaced}
 use Rattle.cedar_convert_fragment.specs.Declares.{Declares}
 use Rattle.cedar_convert_fragment.specs.Fragments.{Fragment}
@@ -18,7 +18,6 @@ use Rattle.cedar_reread.specs.Said.{Tokens, said_fragment}
 use Rattle.cedar_reread.specs.TreesRead.{fragment_read}
 use Rattle.cedar_reread.proofs.MovesBack.{reads_placed}
 use Rattle.cedar_reread.proofs.Nested.{nests_well}
-use Rattle.cedar_reread.proofs.OpenedWhole.{few_open}
 use Rattle.cedar_reread.proofs.Reading.{IsReadable, reads_back}
 use Rattle.cedar_reread_print.specs.Spoken.{spoken}
 use Rattle.cedar_reread_laws.proofs.NestsAlike.{nests_back}
@@ -33,11 +32,6 @@ twice : (ts : Tokens) → tokens_unplaced (tokens_unplaced ts) ≡ tokens_unplac
 twice [] = refl
 twice (t ∷ ts) = ap (λ (l : Tokens). token_unplaced t ∷ l) (twice ts)
 
-opens_alike : (n k : ℕ) (ts : Tokens) → fold unclosed_behind n (take k (tokens_unplaced ts)) ≡ fold unclosed_behind n (take k ts)
-opens_alike n zero ts = refl
-opens_alike n (suc k) [] = refl
-opens_alike n (suc k) (t ∷ ts) = opens_alike (unclosed_behind n t) k ts
-
 -- where one of two schemas whose tokens are the same but for their places declares a fragment, the other does
 abbrev pub PlacesLeftOut : Type 0
 PlacesLeftOut =
@@ -49,20 +43,13 @@ pub record ReadAt (F : Fragment) (ts : Tokens) : Type 0 where
   pub tree : Schema
   pub reads : Reads ts tree
   pub is : schema_unplaced tree ≡ fragment_read F
-  pub brackets : OpensAtMost 130 ts
   pub nests : NestsWell tree
 
 module _ (F : Fragment) (ts : Tokens) (same : tokens_unplaced ts ≡ said_fragment F) (readable : IsReadable 128 F) (shallow : NestsAtMost 128 F) where
   pub read_at : ReadAt F ts
   read_at =
       let w = reads_placed ts (fragment_read F) (subst (λ us. Reads us (fragment_read F)) (sym same) (reads_back 128 F readable)) in
-      record {
-        tree = w.0;
-        reads = w.1;
-        is = w.2;
-        brackets = λ k. subst (λ n. n ≤ 130) (opens_alike 0 k ts) (subst (λ (us : Tokens). unclosed (take k us) ≤ 130) (sym same) (few_open F shallow k));
-        nests = nests_back w.0 (subst NestsWell (sym w.2) (nests_well F shallow));
-      }
+      record { tree = w.0; reads = w.1; is = w.2; nests = nests_back w.0 (subst NestsWell (sym w.2) (nests_well F shallow)) }
 
   -- what is declared without places is declared at these, by the law that places are left out
   pub declared_at : PlacesLeftOut → (G : Fragment) → Declares (fragment_read F) G → (other : Fragment) × Declares read_at.tree other × (placeless other ≡ placeless G)

@@ -36,6 +36,7 @@ use Rattle.cedar_reread_print.proofs.Printing.{print_apart, print_said}
 use Rattle.cedar_reread_print.specs.Spoken.{spoken, words}
 use Rattle.cedar_reread_world.proofs.SoundThere.{reread_denotes, reread_sound}
 use Rattle.cedar_in_order.specs.InOrder.{DefinitionInOrder, FragmentInOrder, TypeInOrder}
+use Rattle.cedar_syntax_laws.proofs.Whole.{reads_text}
 use Rattle.cedar_reread_laws.specs.Printable.{IsPrintable, SaysAction}
 use Rattle.cedar_reread_laws.specs.Shown.{IsPrintOf, shown}
 use Rattle.cedar_reread_laws.proofs.FaultsKept.{faults_reread, no_attributes, same_faults}
@@ -78,7 +79,7 @@ module _ (F : held.Fragment RawName over_raw) (extensions : List Text) (ordered 
       let found = declared_at seen ts same readable shallow law expected.0 expected.1 in (
         found.0,
         warnings extensions at.tree,
-        record { tree = at.tree; reads = record { tokens = ts; lexed = (lexed.0, lexed.1, refl); brackets = at.brackets; reads = at.reads; nests = at.nests }; declares = found.1; warned = refl },
+        record { tree = at.tree; reads = reads_text text ts at.tree (lexed.0, lexed.1, refl) at.reads at.nests; declares = found.1; warned = refl },
         found.2 ∙ expected.2,
       )
 

@@ -1,9 +1,10 @@
 // SPDX-License-Identifier: Apache-2.0
-ghost use Rattle.std.specs.Prelude.{◌≡◌, ℕ, List, [], IsUtf8};
+ghost use Rattle.std.specs.Prelude.{◌≡◌, ℕ, List, [], map, IsUtf8};
 ghost use Rattle.cedar_convert_fragment.specs.Fragments.{Fragment};
 ghost use Rattle.cedar_convert_fragment.specs.Views.{fragment_seen};
 ghost use Rattle.cedar_schema.specs.of_convert_text.Texts.{DeclaresText};
 ghost use Rattle.cedar_convert_warnings.specs.declared.warnings.SchemaWarning.{SchemaWarning};
+ghost use Rattle.cedar_convert_laws.specs.Warnings.{warning_unplaced, warnings_of};
 ghost use Rattle.cedar_fmt.specs.Collisions.{collisions};
 ghost use Rattle.cedar_fragment.specs.ActionUids.{over_raw};
 ghost use Rattle.cedar_fragment.specs.declared.definitions.Fragment as held;
@@ -22,7 +23,7 @@ ghost use Rattle.cedar_world.specs.Denotes.{Denotes};
 ghost use Rattle.cedar_world.specs.Schemas.{Schema};
 ghost use Rattle.cedar_written.specs.declared.raw_name.RawName.{RawName};
 
-use cedar_convert_laws::places_left_out;
+use cedar_convert_laws::{places_left_out, warnings_by_names};
 
 /// A law: each fragment has a text, whatever it says. It does nothing when it runs.
 pub fn what_is_held_has_a_text()
@@ -67,6 +68,17 @@ pub fn what_is_read_again_denotes_the_same()
         → Denotes (world_of_fragment (fragment_seen F) (extension_words X)) S
         → Denotes (world_of_fragment (reread (fragment_seen F)) (extension_words X)) S }
 {}
+
+/// A law: the warnings of a text that declares a fragment as it is read again are those of the fragment itself, places
+/// aside. It does nothing when it runs.
+pub fn what_is_read_again_is_warned_of_alike()
+    ensures { (F G : Fragment) (extensions : List (List ℕ)) (source : List ℕ)
+        → (given : List SchemaWarning) → DeclaresText source extensions G given
+        → placeless G ≡ placeless (reread F)
+        → map warning_unplaced given ≡ warnings_of extensions F }
+{
+    warnings_by_names();
+}
 
 /// A law: the text that is printed of a sound and printable fragment is well formed, and denotes the schema that the
 /// fragment denotes. It does nothing when it runs.

@@ -12,4 +12,5 @@ pub use held::printed_and_read_again;
 pub use laws::{
     what_is_held_has_a_text, what_is_printable_is_not_refused, what_is_printed_declares_it_again,
     what_is_printed_denotes_the_same, what_is_read_again_denotes_the_same,
+    what_is_read_again_is_warned_of_alike,
 };

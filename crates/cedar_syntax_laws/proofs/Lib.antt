@@ -2,4 +2,4 @@
 mod Grammar
 mod Marks
 mod Opening
-mod Whole
+pub mod Whole
