@@ -38,7 +38,10 @@ fn lines_of(alloc: Global, verb: &str, words: &[&str], input: &str) -> Lines {
     let lines = either(lines, cedar_row_calls::answer(alloc, verb, words, input));
     let lines = either(lines, cedar_row_conform::answer(alloc, verb, words, input));
     let lines = either(lines, cedar_row_convert::answer(alloc, verb, words, input));
-    let lines = either(lines, cedar_row_fragment_calls::answer(alloc, verb, input));
+    let lines = either(
+        lines,
+        cedar_row_fragment_calls::answer(alloc, verb, words, input),
+    );
     let lines = either(lines, cedar_row_json::answer(alloc, verb, words, input));
     let lines = either(lines, cedar_row_print::answer(alloc, verb, words, input));
     let lines = either(lines, cedar_row_schemas::answer(alloc, verb, words, input));
