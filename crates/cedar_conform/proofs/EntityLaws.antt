@@ -1,21 +1,15 @@
 -- SPDX-License-Identifier: Apache-2.0
 -- A list passes the check of entities exactly where it is one of entities of the schema, of which none stands twice.
 use Rattle.std.proofs.Common.{◌≡◌, ◌≢◌, ℕ, ◌+◌, ◌||◌, Bool, true, false, if◌then◌else◌, List, [], ◌∷◌, codes, decimal, Option, Some, None, refl, sym, ap, ◌∙◌, subst}
-use Rattle.std.proofs.lemmas.Cmp.{tied_itself}
-use Rattle.std.proofs.lemmas.Map.Lookups.{exact_bytes}
 use Rattle.std.specs.BTreeMap.{is_at}
 use Rattle.std.specs.Cmp.{Equal-is}
-use Rattle.std.specs.Cmp.Lexicographic.{nat_list_cmp_total}
-use Rattle.std.specs.Ordering.{is_eq, ordering_then}
-use Rattle.std.specs.declared.cmp.Ordering.{Ordering}
-use Rattle.std.specs.declared.cmp.Ordering.TheVariants.{Less, Equal, Greater}
+use Rattle.std.specs.Ordering.{is_eq}
 use Rattle.std.specs.declared.result.Result.TheVariants.{Ok}
-use Rattle.cedar_names.proofs.NameOrder.{words_cmp-equal}
-use Rattle.cedar_names.specs.Order.{word_cmp, words_cmp}
 use Rattle.serde_json.specs.Data.{Data, array, object, Items, no_items, item, Members, no_members, member}
 use Rattle.serde_json.specs.Find.{get}
 use Rattle.cedar_json_types.specs.Shapes.{Keyed}
 use Rattle.cedar_checks.specs.of_world.Schemas.{EntityKind, EnumeratedKind, Schema, SchemaEntity, StandardKind}
+use Rattle.cedar_schema_error.proofs.UidOrder.{uid_equal, uid_itself}
 use Rattle.cedar_schema_error.specs.FullNames.{FullName, Uid, uid_cmp}
 use Rattle.cedar_unfold.specs.Resolved.{Resolved, Record}
 use Rattle.cedar_conform.specs.Checks.{Check, each_item, each_value, in_array, in_object, keys_check, needs, under}
@@ -74,23 +68,6 @@ pass-values check (member k d ms) f each =
 
 -- ---- what stands twice
 
-both_equal : (o p : Ordering) → ordering_then o p ≡ Equal → (o ≡ Equal) × (p ≡ Equal)
-both_equal Less p e = cc
-both_equal Equal p e = (refl, e)
-both_equal Greater p e = cc
-
-same-uid : (u v : Uid) → uid_cmp u v ≡ Equal → u ≡ v
-same-uid u v e =
-    let both = both_equal (words_cmp u.ty v.ty) (word_cmp u.id v.id) e in
-    let ty : u.ty ≡ v.ty = (words_cmp-equal u.ty v.ty).0 both.0 in
-    let id : u.id ≡ v.id = exact_bytes u.id v.id both.1 in
-    λ i. record { ty = ty i; id = id i }
-
-uid-itself : (u : Uid) → uid_cmp u u ≡ Equal
-uid-itself u = λ i. ordering_then ((words_cmp-equal u.ty u.ty).1 refl i) (tied_itself nat_list_cmp_total u.id i)
-
--- ---- what stands twice
-
 either-none : (a b : Bool) → a || b ≡ false → (a ≡ false) × (b ≡ false)
 either-none true b is = absurd (cc)
 either-none false b is = (refl, is)
@@ -100,13 +77,13 @@ none-either a b is also = ap (λ x. x || b) is ∙ also
 
 -- tests of entities that differ, and of those that don't
 apart : (u v : Uid) → is_at (uid_cmp v) u ≡ false → u ≢ v
-apart u v is same = true-is-not-false (sym (ap is_eq (uid-itself v)) ∙ ap (λ w. is_at (uid_cmp v) w) (sym same) ∙ is)
+apart u v is same = true-is-not-false (sym (ap is_eq (uid_itself v)) ∙ ap (λ w. is_at (uid_cmp v) w) (sym same) ∙ is)
   where
     true-is-not-false : true ≡ false → ⊥
     true-is-not-false e = absurd (cc)
 
 differs : (u v : Uid) (b : Bool) → is_at (uid_cmp v) u ≡ b → u ≢ v → b ≡ false
-differs u v true is apart = absurd (apart (sym (same-uid v u ((Equal-is (uid_cmp v u)).0 is))))
+differs u v true is apart = absurd (apart (sym (uid_equal v u ((Equal-is (uid_cmp v u)).0 is))))
 differs u v false is apart = refl
 
 -- the entity is none of these

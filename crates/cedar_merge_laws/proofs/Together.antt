@@ -3,9 +3,8 @@
 use Rattle.std.proofs.Common.{◌≡◌, ◌&&◌, ◌||◌, Bool, true, false, List, [], ◌∷◌, Option, Some, None, refl, sym, ap, ◌∙◌, subst, inl, inr}
 use Rattle.std.specs.List.{flat_map, list_any}
 use Rattle.std.specs.Option.{is_some, option_or}
-use Rattle.std.specs.Ordering.{nat_cmp, ordering_then}
-use Rattle.std.specs.declared.cmp.Ordering.{Ordering}
-use Rattle.std.specs.declared.cmp.Ordering.TheVariants.{Less, Equal, Greater}
+use Rattle.std.specs.Ordering.{nat_cmp}
+use Rattle.std.specs.declared.cmp.Ordering.TheVariants.{Equal}
 use Rattle.cedar_data.proofs.Exact.{IsExact}
 use Rattle.cedar_data.proofs.Passing.{AllPass-append, AllPass-map}
 use Rattle.cedar_data.specs.Firsts.{AllPass, SomePasses}
@@ -18,6 +17,7 @@ use Rattle.cedar_merge.specs.declared.errors.DeclKind.{DeclKind}
 use Rattle.cedar_merge.specs.declared.errors.DeclKind.TheVariants.{Common, Entity, Action}
 use Rattle.cedar_merge.proofs.Found.{places_total}
 use Rattle.cedar_merge.proofs.Orders.{paths_exact, words_exact}
+use Rattle.cedar_schema_error.proofs.UidOrder.{both_equal}
 use Rattle.cedar_merge_laws.specs.Together.{InOrder, all_namespaces}
 use Rattle.cedar_merge_laws.proofs.Listing.{Before, Row, ascending, each2_append, found, ordered, rows, rows_of}
 use Rattle.cedar_merge_laws.proofs.Matching.{all_found, get-append, matched, none_differ, unlike}
@@ -27,11 +27,6 @@ use Rattle.cedar_resolving_laws.proofs.Reordering.{Each2}
 use Rattle.cedar_resolving_laws.proofs.Spread.{inner}
 
 -- ---- the order of places ties what is equal alone
-
-both_equal : (a b : Ordering) → ordering_then a b ≡ Equal → (a ≡ Equal) × (b ≡ Equal)
-both_equal Less b e = absurd (cc)
-both_equal Equal b e = (refl, e)
-both_equal Greater b e = absurd (cc)
 
 same_kind : (a b : DeclKind) → nat_cmp (rank a) (rank b) ≡ Equal → a ≡ b
 same_kind Common Common e = refl

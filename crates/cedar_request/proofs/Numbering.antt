@@ -1,20 +1,17 @@
 -- SPDX-License-Identifier: Apache-2.0
 -- The environment of an action with one of its principals and one of its resources stands at its number.
 use Rattle.std.proofs.Common.{◌≡◌, ℕ, suc, ◌+◌, ◌*◌, ◌||◌, Bool, true, false, if◌then◌else◌, List, [], ◌∷◌, length, slice_get, Some, option_map, refl, sym, ap, ◌∙◌, subst, arith, suc-mul}
-use Rattle.std.proofs.lemmas.Cmp.{tied_itself}
 use Rattle.std.proofs.lemmas.List.{length-append, length-map}
-use Rattle.std.proofs.lemmas.Map.Lookups.{exact_bytes}
 use Rattle.std.proofs.lemmas.Option.{slice_get-map}
 use Rattle.std.specs.BTreeMap.{is_at}
 use Rattle.std.specs.Cmp.{Equal-is}
-use Rattle.std.specs.Cmp.Lexicographic.{nat_list_cmp_total}
 use Rattle.std.specs.List.{flat_map}
 use Rattle.std.specs.Map.{lookup}
-use Rattle.std.specs.Ordering.{is_eq, ordering_then}
-use Rattle.std.specs.declared.cmp.Ordering.{Ordering}
-use Rattle.std.specs.declared.cmp.Ordering.TheVariants.{Less, Equal, Greater}
+use Rattle.std.specs.Ordering.{is_eq}
+use Rattle.std.specs.declared.cmp.Ordering.TheVariants.{Equal}
 use Rattle.cedar_names.proofs.NameOrder.{words_cmp-equal}
-use Rattle.cedar_names.specs.Order.{word_cmp, words_cmp}
+use Rattle.cedar_names.specs.Order.{words_cmp}
+use Rattle.cedar_schema_error.proofs.UidOrder.{uid_equal, uid_itself}
 use Rattle.cedar_schema_error.specs.FullNames.{FullName, Uid, uid_cmp}
 use Rattle.cedar_conform.specs.of_world.Schemas.{Schema, SchemaAction}
 use Rattle.cedar_request.proofs.Elements.{get-left, get-right}
@@ -30,23 +27,11 @@ name-at name ty is = (words_cmp-equal name ty).0 ((Equal-is (words_cmp name ty))
 pub at-name : (name ty : FullName) → name ≡ ty → is_at (words_cmp name) ty ≡ true
 at-name name ty is = ap is_eq ((words_cmp-equal name ty).1 is)
 
-both_equal : (o p : Ordering) → ordering_then o p ≡ Equal → (o ≡ Equal) × (p ≡ Equal)
-both_equal Less p e = cc
-both_equal Equal p e = (refl, e)
-both_equal Greater p e = cc
-
 pub uid-at : (u v : Uid) → is_at (uid_cmp u) v ≡ true → u ≡ v
-uid-at u v is =
-    let both = both_equal (words_cmp u.ty v.ty) (word_cmp u.id v.id) ((Equal-is (uid_cmp u v)).0 is) in
-    let ty : u.ty ≡ v.ty = (words_cmp-equal u.ty v.ty).0 both.0 in
-    let id : u.id ≡ v.id = exact_bytes u.id v.id both.1 in
-    λ i. record { ty = ty i; id = id i }
+uid-at u v is = uid_equal u v ((Equal-is (uid_cmp u v)).0 is)
 
 pub at-uid : (u v : Uid) → u ≡ v → is_at (uid_cmp u) v ≡ true
-at-uid u v is = ap is_eq (subst (λ w. uid_cmp u w ≡ Equal) is itself)
-  where
-    itself : uid_cmp u u ≡ Equal
-    itself = λ i. ordering_then ((words_cmp-equal u.ty u.ty).1 refl i) (tied_itself nat_list_cmp_total u.id i)
+at-uid u v is = ap is_eq (subst (λ w. uid_cmp u w ≡ Equal) is (uid_itself u))
 
 -- ---- types
 

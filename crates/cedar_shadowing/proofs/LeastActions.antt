@@ -2,41 +2,22 @@
 -- The least action that shadows another makes the least pair.
 use Rattle.std.proofs.Common.{◌≡◌, ◌⊎◌, inl, inr, ◌||◌, ℕ, Bool, true, false, not, List, [], ◌∷◌, Option, Some, None, unwrap_or, is_some, refl, sym, ap, ◌∙◌, subst}
 use Rattle.std.proofs.lemmas.Cmp.{on_total, nat_list_cmp_total, then_total, tied_itself}
+use Rattle.std.proofs.lemmas.Map.Lookups.{exact_bytes}
 use Rattle.std.specs.BTreeMap.{is_at}
 use Rattle.std.specs.Cmp.{IsTotalOrder}
-use Rattle.std.specs.Cmp.Lexicographic.{bytes_decides, texts_ties}
 use Rattle.std.specs.Ordering.{is_eq, ordering_reverse, ordering_then}
 use Rattle.std.specs.declared.cmp.Ordering.{Ordering}
 use Rattle.std.specs.declared.cmp.Ordering.TheVariants.{Less, Equal, Greater}
 use Rattle.cedar_data.specs.Sets.{contains}
-use Rattle.cedar_names.proofs.NameOrder.{words_cmp-equal}
-use Rattle.cedar_names.specs.Order.{word_cmp, words_cmp}
-use Rattle.cedar_names.specs.OrderLaws.{words-total}
-use Rattle.cedar_schema_error.specs.FullNames.{FullName, Uid, is_qualified, uid_cmp}
+use Rattle.cedar_names.specs.Order.{word_cmp}
+use Rattle.cedar_schema_error.proofs.UidOrder.{uid_equal, uid_total}
+use Rattle.cedar_schema_error.specs.FullNames.{Uid, is_qualified, uid_cmp}
 use Rattle.cedar_declared.specs.Alone.{is_alone, pick_all}
 use Rattle.cedar_declared.specs.Names.{Names, is_action}
 use Rattle.cedar_shadowing.specs.Picking.{least_shadowing_action, shadowed_action, shadowing_action_cmp, shadows_action}
 use Rattle.cedar_shadowing.specs.Shadowing.{IsLeastPair, NoPair, ShadowsAction}
 use Rattle.cedar_shadowing.proofs.LeastTypes.{and_first, and_second, both_true, equal_when, not_false}
 use Rattle.cedar_shadowing.proofs.Picked.{IsBest, Stands, best_of}
-
-pub uid_total : IsTotalOrder uid_cmp
-uid_total = then_total (on_total (λ (u : Uid). u.ty) (words-total (λ (x : FullName). x))) (on_total (λ (u : Uid). u.id) nat_list_cmp_total)
-
-both_equal : (o p : Ordering) → ordering_then o p ≡ Equal → (o ≡ Equal) × (p ≡ Equal)
-both_equal Equal p e = (refl, e)
-both_equal Less p e = let q : Less ≡ Equal = e in absurd (cc)
-both_equal Greater p e = let q : Greater ≡ Equal = e in absurd (cc)
-
-pub word_equal : (x y : List ℕ) → word_cmp x y ≡ Equal → x ≡ y
-word_equal x y e = (bytes_decides x y).0 (texts_ties x y ∙ ap is_eq e)
-
-uid_equal : (u v : Uid) → uid_cmp u v ≡ Equal → u ≡ v
-uid_equal u v e =
-    let parts : (words_cmp u.ty v.ty ≡ Equal) × (word_cmp u.id v.id ≡ Equal) = both_equal (words_cmp u.ty v.ty) (word_cmp u.id v.id) e in
-    let ty : u.ty ≡ v.ty = (words_cmp-equal u.ty v.ty).0 parts.0 in
-    let id : u.id ≡ v.id = word_equal u.id v.id parts.1 in
-    (λ i. record { ty = ty i; id = id i })
 
 stands : (us : List Uid) (u : Uid) → contains uid_cmp us u ≡ true → Stands us u
 stands [] u e = let p : false ≡ true = e in absurd (cc)
@@ -101,7 +82,7 @@ module _ (own : Names) where
     both = both_true (is_action own a) (is_action own u) (declared a is.0) (declared u there);
     qualified = and_first (is_qualified u.ty) (is_some (shadowed_action own.actions u)) passes;
     unqualified = not_false (is_qualified a.ty) (and_first (not (is_qualified a.ty)) (is_at (word_cmp u.id) a.id) is.1);
-    same_id = sym (word_equal u.id a.id (equal_when (word_cmp u.id a.id) (and_second (not (is_qualified a.ty)) (is_at (word_cmp u.id) a.id) is.1)));
+    same_id = sym (exact_bytes u.id a.id (equal_when (word_cmp u.id a.id) (and_second (not (is_qualified a.ty)) (is_at (word_cmp u.id) a.id) is.1)));
   }
 
   none_by : (o : Option Uid) → IsBest (shadows_action own.actions) (shadowing_action_cmp own.actions) Seen o → o ≡ None → NoPair (ShadowsAction own)

@@ -5,3 +5,4 @@ pub mod LookedUp
 pub mod Phases
 pub mod Picked
 pub mod Shadowers
+pub mod of_schema_error
