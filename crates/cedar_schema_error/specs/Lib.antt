@@ -5,7 +5,6 @@ pub mod ErrorPlaces
 pub mod ErrorTexts
 pub mod FullNames
 pub mod Joining
-pub mod KeptDeclarations
 pub mod ListTexts
 pub mod NameReferences
 pub mod NameTexts
