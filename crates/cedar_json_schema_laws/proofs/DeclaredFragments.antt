@@ -23,7 +23,8 @@ use Rattle.cedar_convert_faults.specs.Repeats.{Names, words_of}
 use Rattle.cedar_convert_fragment.specs.Declares.{Declares, action_content, actions, clauses_of, closed, commons, context_in, declared_by, declared_in, definition_of, each, empty_context, entities, entity_content, first_context, free_name, free_names, given, is_reserved_name, type_at}
 use Rattle.cedar_convert_fragment.specs.Fragments.{ByName, Fragment, TypeAt}
 use Rattle.cedar_json_schema_laws.proofs.DeclaredTypes.{IsShallow, ShapeFits, closed_fits, shallow_fits, shape_fits}
-use Rattle.cedar_json_schema_laws.proofs.Entries.{all_append, all_first, all_flat, all_of_map, all_second}
+use Rattle.cedar_json_schema_laws.proofs.Entries.{all_append, all_flat, all_of_map}
+use Rattle.cedar_resolving_laws.proofs.MapsBack.{all_first, all_second}
 use Rattle.cedar_json_schema_laws.proofs.SeenFragments.{ActionFits, AnyKey, CommonFits, DefinitionFits, EntityFits, EntryIs, FragmentFits, FreeKey, IsBare, NamespaceFits}
 use Rattle.cedar_json_schema_laws.proofs.SeenTypes.{Fits, form_depth}
 

@@ -14,14 +14,6 @@ module _ {X : Type 0} (P : X → Type 0) where
   all_append [] ys first second = second
   all_append (x ∷ xs) ys first second = (first.0, all_append xs ys first.1 second)
 
-  pub all_first : (xs ys : List X) → AllByRecursion P (xs ++ ys) → AllByRecursion P xs
-  all_first [] ys all = tt
-  all_first (x ∷ xs) ys all = (all.0, all_first xs ys all.1)
-
-  pub all_second : (xs ys : List X) → AllByRecursion P (xs ++ ys) → AllByRecursion P ys
-  all_second [] ys all = all
-  all_second (x ∷ xs) ys all = all_second xs ys all.1
-
 -- of the lists that f makes of the elements
 pub all_flat : {X Y : Type 0} (P : X → Type 0) (Q : Y → Type 0) (f : X → List Y) → ((x : X) → P x → AllByRecursion Q (f x)) → (xs : List X) → AllByRecursion P xs → AllByRecursion Q (flat_map f xs)
 all_flat P Q f each [] all = tt

@@ -5,7 +5,6 @@ pub mod DeclaredTypes
 pub mod DeclaredWritable
 pub mod Entries
 pub mod FaultsUnplaced
-pub mod MapsBack
 pub mod OtherWords
 pub mod ReadAlike
 pub mod ReservedNames

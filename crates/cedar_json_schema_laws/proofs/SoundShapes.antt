@@ -22,8 +22,7 @@ use Rattle.cedar_fragment_world.specs.FragmentWorlds.{action_at, action_uid, con
 use Rattle.cedar_json_schema_laws.specs.TypeWords.{IsNoWord, IsNotEntityOrCommon, NamesNoEntityOrCommon, NamesNoWord, OfAction, OfEntity}
 use Rattle.cedar_resolving_laws.proofs.OnceEach.{NamesDiffer, UidsDiffer}
 use Rattle.cedar_resolving_laws.proofs.Reordering.{Each2}
-use Rattle.cedar_json_schema_laws.proofs.Entries.{all_first, all_second}
-use Rattle.cedar_json_schema_laws.proofs.MapsBack.{all_of_pass, all_unflat, map_back}
+use Rattle.cedar_resolving_laws.proofs.MapsBack.{all_first, all_of_pass, all_second, all_unflat, map_back}
 use Rattle.cedar_json_schema_laws.proofs.OtherWords.{other_path}
 use Rattle.cedar_json_schema_laws.proofs.ReservedNames.{AreFreeCommons, reserved_no_record, word_possibilities}
 

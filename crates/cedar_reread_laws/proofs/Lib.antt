@@ -3,7 +3,6 @@ mod Conditions
 mod Denoting
 mod FaultsKept
 mod Known
-mod MapsBack
 mod NestsAlike
 mod NoCollisions
 mod Places

@@ -22,7 +22,7 @@ use Rattle.cedar_fragment_world.specs.FragmentWorlds.{action_at, action_uid, com
 use Rattle.cedar_resolving_laws.proofs.OnceEach.{Apart, actions_each, apart_each, commons_each, entities_each}
 use Rattle.cedar_resolving_laws.proofs.Reordering.{Each2}
 use Rattle.cedar_reread.specs.EachType.{Nests}
-use Rattle.cedar_reread_laws.proofs.MapsBack.{all_first, all_of_pass, all_second, all_unflat, all_unmapped, map_back}
+use Rattle.cedar_resolving_laws.proofs.MapsBack.{all_first, all_of_pass, all_second, all_unflat, all_unmapped, map_back}
 use Rattle.cedar_reread_laws.proofs.SoundTypes.{IsClosed, IsNamedOrRecord, type_closed, type_deep, type_shaped}
 
 -- a type, and one that is a whole shape or context

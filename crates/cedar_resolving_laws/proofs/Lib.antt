@@ -1,6 +1,7 @@
 -- SPDX-License-Identifier: Apache-2.0
 pub mod Reordering
 pub mod MapsReordered
+pub mod MapsBack
 pub mod WorldLaws
 pub mod OnceEach
 pub mod Spread
