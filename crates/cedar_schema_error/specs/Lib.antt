@@ -5,6 +5,7 @@ pub mod ErrorPlaces
 pub mod ErrorTexts
 pub mod FullNames
 pub mod Joining
+pub mod KeptDeclarations
 pub mod ListTexts
 pub mod NameReferences
 pub mod NameTexts
