@@ -14,6 +14,7 @@ pub mod Following
 pub mod Finished
 pub mod Tables
 pub mod Notes
+pub mod KeptNames
 pub mod Rows
 pub mod Full
 pub mod Passing

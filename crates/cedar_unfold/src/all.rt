@@ -1,5 +1,5 @@
 // SPDX-License-Identifier: Apache-2.0
-ghost use Rattle.std.specs.Prelude.{◌≡◌, ◌+◌, ◌*◌, ◌≤◌, [], None, length, option_map, IfOk};
+ghost use Rattle.std.specs.Prelude.{◌≡◌, ◌+◌, ◌*◌, ◌≤◌, [], None, length, map, option_map, IfOk};
 ghost use Rattle.std.specs.Option.{option_copied};
 ghost use Rattle.std.specs.List.{AllZip};
 ghost use Rattle.std.specs.List.Sorted.{IsStrictlySortedBy};
@@ -8,12 +8,14 @@ ghost use Rattle.cedar_data.specs.Answers.{IfRefused};
 ghost use Rattle.cedar_data.specs.Firsts.{FirstRefused};
 ghost use Rattle.cedar_names.specs.Components.{components};
 ghost use Rattle.cedar_names.specs.Names.{internal_cmp};
+ghost use Rattle.cedar_schema_error.specs.KeptDeclarations.{KeepsAmong, placed};
 ghost use Rattle.cedar_schema_error.specs.Refusals.{CommonType, CycleInCommonTypeReferences, TooDeep};
 ghost use Rattle.cedar_schema_error.specs.Told.{told};
 ghost use Rattle.cedar_sorting.specs.Orders.{IsOrder};
 ghost use Rattle.cedar_sorting.specs.declared.sort.Sorting.TheVariants.{Order};
 ghost use Rattle.cedar_unfold.specs.Finished.{common_of};
 ghost use Rattle.cedar_unfold.specs.Full.{by_place, job_of};
+ghost use Rattle.cedar_unfold.specs.KeptNames.{KeepsName, KeepsNone};
 ghost use Rattle.cedar_unfold.specs.Notes.{noted};
 ghost use Rattle.cedar_unfold.specs.Passing.{DefinitionsPass, DefinitionsRefuse, HasSome, HasType, IsCycleWithin, LacksType, TellsSorting};
 ghost use Rattle.cedar_unfold.specs.ResolvedViews.{resolved};
@@ -60,7 +62,8 @@ impl Dup for Unfolded {
 /// What the common types `defs` and the uses unfold to, with `extensions` for the extension types. All names are full
 /// names. It looks at each written type at most twice, and writes each common type out once. Refused with the least
 /// common type that reaches itself; else with the first fault of the least common type that has one; else with the
-/// least common type that nests too deep; else as the first use that is refused.
+/// least common type that nests too deep; else as the first use that is refused. A common type that reaches itself is
+/// told as it is defined, with its place.
 pub fn unfold_all<T: TypeNode, L: Ledger>(
     alloc: Global,
     defs: &Map<InternalName, T>,
@@ -78,6 +81,7 @@ pub fn unfold_all<T: TypeNode, L: Ledger>(
         (λ e. WhyNotUnfoldable
         (job_of (by_name T.written defs.now) (by_place T.written uses.now) extensions.now)
         (told e)) }
+    ensures kept { IfRefused result (KeepsAmong (map placed (keys_of defs.now)) []) }
     ensures counts { steps.new ≤ steps.old + 2 * node_count (by_name T.written defs.now)
         (by_place T.written uses.now) }
 {
@@ -113,6 +117,7 @@ fn ordered<T: TypeNode, L: Ledger>(
         (λ _. DefinitionsPass (by_name T.written defs.now) extensions.now) }
     ensures refused { IfRefused result
         (λ e. DefinitionsRefuse (by_name T.written defs.now) extensions.now (told e)) }
+    ensures kept { IfRefused result (KeepsAmong (map placed keys.now) []) }
     ensures counts { steps.new ≤ steps.old + all_nodes (by_name T.written defs.now) }
 {
     let mut fault = None;
@@ -132,6 +137,7 @@ fn judged(
     ensures order { IfOk result (λ order. (sorting ≡ Order order) × (noted fault ≡ None)) }
     ensures refused { IfRefused result
         (λ e. TellsSorting (names_of keys.now) sorting (noted fault) (told e)) }
+    ensures kept { IfRefused result (KeepsAmong (map placed keys.now) []) }
 {
     match sorting {
         Sorting::Cycle(least) => Err(Failure::Refused(cycle(alloc, &keys[least])?)),
@@ -142,9 +148,10 @@ fn judged(
     }
 }
 
-/// The error that a common type reaches itself.
+/// The error that a common type reaches itself. It keeps the name with its place.
 fn cycle(alloc: Global, name: &InternalName) -> Mem<SchemaError>
-    ensures { IfOk result (λ e. told e ≡ CycleInCommonTypeReferences (components name.now)) }
+    ensures tells { IfOk result (λ e. told e ≡ CycleInCommonTypeReferences (components name.now)) }
+    ensures kept { IfOk result (KeepsName name.now) }
 {
     let ty = name.dup(alloc)?;
     let error = CycleInCommonTypeReferencesError { ty };
@@ -163,6 +170,7 @@ fn common_types<T>(
     ensures refused { IfRefused result
         (λ e. FirstRefused (HasSome (tabled table.now)) (LacksType (tabled table.now))
         (names_of (keys_of defs.now)) (told e)) }
+    ensures kept { IfRefused result KeepsNone }
 {
     let mut made = Map::with_room(alloc, defs.len())?;
     for (key, _) in defs.iter() {
@@ -192,7 +200,8 @@ fn found_type<'a>(
 
 /// The error that a common type nests too deep.
 fn too_deep(alloc: Global, name: &InternalName) -> Mem<SchemaError>
-    ensures { IfOk result (λ e. told e ≡ TooDeep (CommonType (components name.now))) }
+    ensures tells { IfOk result (λ e. told e ≡ TooDeep (CommonType (components name.now))) }
+    ensures kept { IfOk result KeepsNone }
 {
     let place = DeepPlace::Common(name.dup(alloc)?);
     Ok(SchemaError::TooDeep(TooDeepError { place }))

@@ -9,6 +9,7 @@ ghost use Rattle.cedar_schema_error.specs.Told.{told};
 ghost use Rattle.cedar_names.specs.of_text.Words.{has_word};
 ghost use Rattle.cedar_unfolding.specs.Faults.{entity_fault, extension_fault, open_fault};
 ghost use Rattle.cedar_unfold.specs.Following.{first_of};
+ghost use Rattle.cedar_unfold.specs.KeptNames.{KeepsNone};
 ghost use Rattle.cedar_unfold.specs.Notes.{told_fault, noted};
 
 use cedar_data::{Dup, Mem};
@@ -35,7 +36,8 @@ pub(crate) enum Fault {
 impl Fault {
     /// The error that tells of it.
     pub(crate) fn into_error(self, alloc: Global) -> SchemaError
-        ensures { told result ≡ told_fault self }
+        ensures tells { told result ≡ told_fault self }
+        ensures kept { KeepsNone result }
     {
         match self {
             Fault::OpenRecord => SchemaError::UnsupportedFeature(UnsupportedFeatureError {

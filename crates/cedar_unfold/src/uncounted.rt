@@ -1,6 +1,8 @@
 // SPDX-License-Identifier: Apache-2.0
-ghost use Rattle.std.specs.Prelude.{◌≡◌, ◌<◌, IfOk};
+ghost use Rattle.std.specs.Prelude.{◌≡◌, ◌<◌, [], map, IfOk};
+ghost use Rattle.std.specs.Map.{keys_of};
 ghost use Rattle.cedar_data.specs.Answers.{IfRefused};
+ghost use Rattle.cedar_schema_error.specs.KeptDeclarations.{KeepsAmong, placed};
 ghost use Rattle.cedar_schema_error.specs.Told.{told};
 ghost use Rattle.cedar_unfold.specs.Full.{by_place, job_of};
 ghost use Rattle.cedar_unfold.specs.ResolvedViews.{resolved};
@@ -34,6 +36,7 @@ pub fn unfold_uncounted<T: TypeNode>(
         (λ e. WhyNotUnfoldable
         (job_of (by_name T.written defs.now) (by_place T.written uses.now) extensions.now)
         (told e)) }
+    ensures kept { IfRefused result (KeepsAmong (map placed (keys_of defs.now)) []) }
 {
     unfold_in::<T, Brand>(alloc, defs, uses, extensions, Blank::new(1))
 }
@@ -59,6 +62,7 @@ fn unfold_in<T: TypeNode, L: Ledger>(
         (λ e. WhyNotUnfoldable
         (job_of (by_name T.written defs.now) (by_place T.written uses.now) extensions.now)
         (told e)) }
+    ensures kept { IfRefused result (KeepsAmong (map placed (keys_of defs.now)) []) }
 {
     let mut steps = Steps::<L>::start(blank);
     unfold_all(alloc, defs, uses, extensions, &mut steps)

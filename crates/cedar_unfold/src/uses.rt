@@ -1,11 +1,12 @@
 // SPDX-License-Identifier: Apache-2.0
-ghost use Rattle.std.specs.Prelude.{◌≡◌, ◌+◌, ◌≤◌, IfOk, MatchOption};
+ghost use Rattle.std.specs.Prelude.{◌≡◌, ◌+◌, ◌≤◌, ⊤, IfOk, MatchOption};
 ghost use Rattle.std.specs.List.{AllZip};
 ghost use Rattle.cedar_data.specs.Answers.{IfRefused};
 ghost use Rattle.cedar_data.specs.Firsts.{FirstRefused};
 ghost use Rattle.cedar_schema_error.specs.Refusals.{ContextOrShapeNotRecord, Place, TooDeep};
 ghost use Rattle.cedar_schema_error.specs.Told.{told, told_use};
 ghost use Rattle.cedar_unfold.specs.Full.{Definitions, IsFull, by_place, meanings_of};
+ghost use Rattle.cedar_unfold.specs.KeptNames.{KeepsNone};
 ghost use Rattle.cedar_unfold.specs.Passing.{GivesUse, PassesAs};
 ghost use Rattle.cedar_unfold.specs.ResolvedViews.{resolved};
 ghost use Rattle.cedar_unfold.specs.Tables.{tabled};
@@ -43,6 +44,7 @@ pub(crate) fn unfolded_uses<T: TypeNode, L: Ledger>(
         → FirstRefused (UsePasses (meanings_of definitions extensions.now))
         (UseRefuses (meanings_of definitions extensions.now)) (by_place T.written uses.now)
         (told e)) }
+    ensures kept { IfRefused result KeepsNone }
     ensures counts { steps.new ≤ steps.old + all_nodes (by_place T.written uses.now) }
 {
     let mut made = Map::with_room(alloc, uses.len())?;
@@ -70,6 +72,7 @@ fn unfolded_use<T: TypeNode, L: Ledger>(
         → IsFull (meanings_of definitions extensions.now) (tabled table.now)
         → UseRefuses (meanings_of definitions extensions.now) (told_use place.now, T.written ty.now)
         (told e)) }
+    ensures kept { IfRefused result KeepsNone }
     ensures counts { steps.new ≤ steps.old + nodes (T.written ty.now) }
 {
     let mut fault = None;
@@ -89,6 +92,7 @@ fn fitting(alloc: Global, place: &UsePlace, found: Nested) -> Out<Type, SchemaEr
         × Fits (told_use place.now) (resolved found.ty)) }
     ensures refused { IfRefused result (λ e. (told e ≡ ContextOrShapeNotRecord (told_use place.now))
         × (Fits (told_use place.now) (resolved found.ty) → ⊥)) }
+    ensures kept { IfRefused result KeepsNone }
 {
     match misfit(alloc, place, &found.ty)? {
         Some(error) => Err(Failure::Refused(error)),
@@ -98,7 +102,8 @@ fn fitting(alloc: Global, place: &UsePlace, found: Nested) -> Out<Type, SchemaEr
 
 /// The error that a use nests too deep.
 fn too_deep(alloc: Global, place: &UsePlace) -> Mem<SchemaError>
-    ensures { IfOk result (λ e. told e ≡ TooDeep (Place (told_use place.now))) }
+    ensures tells { IfOk result (λ e. told e ≡ TooDeep (Place (told_use place.now))) }
+    ensures kept { IfOk result KeepsNone }
 {
     let place = DeepPlace::Place(place.dup(alloc)?);
     Ok(SchemaError::TooDeep(TooDeepError { place }))
@@ -106,9 +111,10 @@ fn too_deep(alloc: Global, place: &UsePlace) -> Mem<SchemaError>
 
 /// That the type is no record where one must stand, if it is so.
 fn misfit(alloc: Global, place: &UsePlace, ty: &Type) -> Mem<Option<SchemaError>>
-    ensures { IfOk result (λ error. MatchOption error (Fits (told_use place.now) (resolved ty.now))
+    ensures fits { IfOk result (λ error. MatchOption error (Fits (told_use place.now) (resolved ty.now))
         (λ error. (told error ≡ ContextOrShapeNotRecord (told_use place.now))
         × (Fits (told_use place.now) (resolved ty.now) → ⊥))) }
+    ensures kept { IfOk result (λ error. MatchOption error ⊤ KeepsNone) }
 {
     if let TypeView::Record(..) = ty.view() {
         return Ok(None);

@@ -15,7 +15,7 @@ use Rattle.cedar_unfold.proofs.uses.unfolded_use.Goals as goal
 pub returns-in-Some-clause-refused : goal.returns-in-Some-clause-refused
 returns-in-Some-clause-refused g c = λ definitions full.
     refused-fault c.args.extensions.now (tabled c.args.table.now) (told_use c.args.place.now) (g.T.TypeNode.written c.args.ty.now) definitions full
-    (told_fault c.in-Some.fault) (told c.into_error.result) (sym (ap noted c.in-Some.is) ∙ c.in_ok-found.ensures.fault) c.into_error.ensures
+    (told_fault c.in-Some.fault) (told c.into_error.result) (sym (ap noted c.in-Some.is) ∙ c.in_ok-found.ensures.fault) c.into_error.ensures.tells
 
 pub returns-in-Some-found-clause-passes : goal.returns-in-Some-found-clause-passes
 returns-in-Some-found-clause-passes g c =
@@ -38,4 +38,4 @@ returns-in-Some-found-clause-refused g c =
 pub returns-in_ok-too_deep-in-None-clause-refused : goal.returns-in_ok-too_deep-in-None-clause-refused
 returns-in_ok-too_deep-in-None-clause-refused g c = λ definitions full.
     refused-deep c.args.extensions.now (tabled c.args.table.now) (told_use c.args.place.now) (g.T.TypeNode.written c.args.ty.now) definitions full
-    (sym (ap noted c.in_default.is) ∙ c.in_ok-found.ensures.fault) (told c.in_ok-too_deep-in-None.field-0) (sym (ap found_type c.in-None.is) ∙ c.in_ok-found.ensures.is) c.in_ok-too_deep-in-None.ensures
+    (sym (ap noted c.in_default.is) ∙ c.in_ok-found.ensures.fault) (told c.in_ok-too_deep-in-None.field-0) (sym (ap found_type c.in-None.is) ∙ c.in_ok-found.ensures.is) c.in_ok-too_deep-in-None.ensures.tells
