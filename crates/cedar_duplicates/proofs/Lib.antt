@@ -2,3 +2,4 @@
 pub mod Pushed
 pub mod Seen
 pub mod Declared
+pub mod Kept

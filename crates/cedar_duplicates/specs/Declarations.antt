@@ -8,6 +8,8 @@ use Rattle.cedar_names.specs.Names.{entity_words}
 use Rattle.cedar_written.specs.declared.ref_name.RefName as ref_name
 use Rattle.cedar_definitions.specs.declared.structures.ValidatorNamespaceDef.{ValidatorNamespaceDef}
 use Rattle.cedar_schema_error.specs.FullNames.{uid_in}
+use Rattle.cedar_schema_error.specs.declared.schema_error.SchemaError.{SchemaError}
+use Rattle.cedar_schema_error.specs.declared.schema_error.SchemaError.TheVariants as error
 use Rattle.cedar_duplicates.specs.Duplicates as names
 use Rattle.cedar_duplicates.specs.declared.declaration.Declaration.{Declaration}
 use Rattle.cedar_duplicates.specs.declared.declaration.Declaration.TheVariants.{CommonType, EntityType, Action}
@@ -17,6 +19,12 @@ abbrev pub declared : Declaration → names.Declared
 declared (CommonType name) = names.CommonType (components name)
 declared (EntityType ty) = names.EntityType (entity_words ty)
 declared (Action uid) = names.Action (uid_in uid)
+
+-- the error that keeps the name of a declaration as it is, with its place
+abbrev pub error_of : Declaration → SchemaError
+error_of (CommonType name) = error.DuplicateCommonType (record { ty = name })
+error_of (EntityType ty) = error.DuplicateEntityType (record { ty = ty })
+error_of (Action uid) = error.DuplicateAction (record { uid = uid })
 
 -- whether the first of two is equal to the second, in this order
 abbrev pub same_by : {K : Type 0} → (K → K → Ordering) → K → K → Bool

@@ -1,6 +1,6 @@
 // SPDX-License-Identifier: Apache-2.0
 ghost use Rattle.std.specs.Prelude.{◌≡◌, IfOk};
-ghost use Rattle.cedar_duplicates.specs.Declarations.{declared};
+ghost use Rattle.cedar_duplicates.specs.Declarations.{declared, error_of};
 ghost use Rattle.cedar_duplicates.specs.Duplicates.{duplicate};
 ghost use Rattle.cedar_schema_error.specs.Told.{told};
 
@@ -42,9 +42,10 @@ impl Dup for Declaration {
 }
 
 impl Declaration {
-    /// The refusal of a name that is declared before. It takes no memory.
+    /// The refusal of a name that is declared before, which keeps the name as it is, with its place. It takes no memory.
     pub(crate) fn into_error(self) -> SchemaError
-        ensures { told result ≡ duplicate (declared self) }
+        ensures told { told result ≡ duplicate (declared self) }
+        ensures keeps { result ≡ error_of self }
     {
         match self {
             Declaration::CommonType(ty) => {

@@ -3,6 +3,8 @@ ghost use Rattle.std.specs.Prelude.{◌≡◌, ◌++◌, [], fold, map, IfOk, Ma
 ghost use Rattle.cedar_data.specs.Firsts.{FirstAgain, NoneAgain};
 ghost use Rattle.cedar_duplicates.specs.Declarations.{same_by, with_declarations};
 ghost use Rattle.cedar_duplicates.specs.Duplicates.{AreOnce, IsTwice};
+ghost use Rattle.cedar_definitions.specs.DeclaredNames.{all_actions, all_types};
+ghost use Rattle.cedar_schema_error.specs.KeptDeclarations.{KeepsAmong, placed, placed_action};
 ghost use Rattle.cedar_schema_error.specs.Told.{told};
 ghost use Rattle.cedar_written.specs.Answers.{IfRefused};
 
@@ -13,13 +15,16 @@ use cedar_schema_error::{RefName, SchemaError};
 use std::alloc::Global;
 
 /// Refused with the first full name that definitions declare a second time: by definition in order, in each by common
-/// types, entity types and actions, each in order.
+/// types, entity types and actions, each in order. The name is told as it is declared, with its place.
 pub fn refuse_duplicates<N: RefName + Ord, A: Ord>(
     alloc: Global,
     definitions: &[ValidatorNamespaceDef<N, A>],
 ) -> Out<(), SchemaError>
     ensures once { IfOk result (λ _. AreOnce definitions.now) }
     ensures twice { IfRefused result (λ e. IsTwice definitions.now (told e)) }
+    ensures kept { IfRefused result
+        (KeepsAmong (map placed (all_types definitions.now))
+        (map placed_action (all_actions definitions.now))) }
 {
     let declarations = gather_declarations(alloc, definitions)?;
     match first_again(alloc, declarations)? {
