@@ -39,7 +39,7 @@ module _ {W E : Type 0} (R : W → E → Type 0) where
 
 -- the next of entries under the keys of items in order is after the others
 module _ {K X Y : Type 0} (cmp : K → K → Ordering) (R : K × X → K × Y → Type 0) (key_is : (w : K × X) (e : K × Y) → R w e → e.0 ≡ w.0) where
-  same_keys : (ws : List (K × X)) (es : List (K × Y)) → AllZip R ws es → keys_of es ≡ keys_of ws
+  pub same_keys : (ws : List (K × X)) (es : List (K × Y)) → AllZip R ws es → keys_of es ≡ keys_of ws
   same_keys [] [] z = refl
   same_keys [] (e ∷ es) z = absurd z
   same_keys (w ∷ ws) [] z = absurd z

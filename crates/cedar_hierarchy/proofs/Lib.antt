@@ -4,6 +4,7 @@ pub mod Aligned
 pub mod Answering
 pub mod ChildrenLemmas
 pub mod Closing
+pub mod CycleKept
 pub mod Hierarchies
 pub mod HierarchiesMade
 pub mod Meant

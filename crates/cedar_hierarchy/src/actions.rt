@@ -1,6 +1,7 @@
 // SPDX-License-Identifier: Apache-2.0
 ghost use Rattle.std.specs.Prelude.{◌≡◌, [], map, IfOk};
 ghost use Rattle.std.specs.List.{AllZip};
+ghost use Rattle.std.specs.Map.{keys_of};
 ghost use Rattle.cedar_closure.specs.Closure.{IsAcyclic, IsClosure, IsLeastOnCycle};
 ghost use Rattle.cedar_data.specs.Firsts.{IsLeast};
 ghost use Rattle.cedar_outlines.specs.of_declared.Held.{names_of};
@@ -14,6 +15,7 @@ ghost use Rattle.cedar_names.specs.declared.entity_uid.EntityUID.{EntityUID};
 ghost use Rattle.cedar_resolved.specs.Schemas.{action_descendants, action_name, action_with};
 ghost use Rattle.cedar_resolved.specs.Schemas as resolved;
 ghost use Rattle.cedar_schema_error.specs.FullNames.{Uid, uid_cmp};
+ghost use Rattle.cedar_schema_error.specs.KeptDeclarations.{KeepsAmong, placed_action};
 ghost use Rattle.cedar_schema_error.specs.Refusals.{CycleInActionHierarchy};
 ghost use Rattle.cedar_schema_error.specs.Told.{told};
 ghost use Rattle.cedar_schema_error.specs.declared.use_place.UsePlace.TheVariants.{Context};
@@ -160,7 +162,7 @@ fn close_actions(
 }
 
 /// The actions of a resolved schema, each with all that descends from it: those of the outlines, with the types that
-/// their contexts unfold to. Refused with the least action that descends from itself.
+/// their contexts unfold to. Refused with the least action that descends from itself, as it is declared, with its place.
 pub fn resolved_actions(
     alloc: Global,
     all_defs: &AllDefs,
@@ -177,6 +179,7 @@ pub fn resolved_actions(
         × IsLeast uid_cmp
         (λ u. ActionOutlineDescends (names_of all_defs.now)
         (map action_outline_in outlines) u u) uid) }
+    ensures kept { IfRefused result (KeepsAmong [] (map placed_action (keys_of outlines))) }
 {
     let children = gather(alloc, all_defs, &outlines)?;
     let nodes = action_nodes(alloc, all_defs, outlines, &children, uses)?;
