@@ -14,6 +14,7 @@ pub mod DeclaredTables
 pub mod DeclaredWorld
 pub mod Descending
 pub mod EntityReferences
+pub mod KeptDeclarations
 pub mod KeptReferences
 pub mod Making
 pub mod MembershipLists

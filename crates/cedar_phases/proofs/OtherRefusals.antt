@@ -28,7 +28,7 @@ true-false false is isnt = cc
 
 -- ---- of lists
 
-of_refused : {A E : Type 0} (P : A → Type 0) (F : A → E → Type 0) (Q : E → Type 0) → ((x : A) (e : E) → F x e → Q e) → (xs : List A) (e : E) → FirstRefused P F xs e → Q e
+pub of_refused : {A E : Type 0} (P : A → Type 0) (F : A → E → Type 0) (Q : E → Type 0) → ((x : A) (e : E) → F x e → Q e) → (xs : List A) (e : E) → FirstRefused P F xs e → Q e
 of_refused P F Q each [] e r = absurd r
 of_refused P F Q each (x ∷ xs) e (inl r) = each x e r
 of_refused P F Q each (x ∷ xs) e (inr r) = of_refused P F Q each xs e r.1

@@ -26,7 +26,7 @@ use Rattle.cedar_names.specs.Order.{words_cmp}
 use Rattle.cedar_names.specs.declared.entity_uid.EntityUID.{EntityUID}
 use Rattle.cedar_names.specs.declared.name.EntityType.{EntityType}
 use Rattle.cedar_phases.specs.Holding.{Definition}
-use Rattle.cedar_phases.specs.Places.{IsAmong, IsPlaced, IsUnplaced, Places, action_places, entity_places, places_in, places_outlined}
+use Rattle.cedar_phases.specs.Places.{IsPlaced, IsUnplaced, Places, action_places, entity_places, places_in, places_outlined}
 use Rattle.cedar_qualified.specs.of_world.DefinitionViews.{namespace_in}
 use Rattle.cedar_qualified.specs.of_world.Definitions.{Namespace}
 use Rattle.cedar_qualified.specs.of_world.Worlds.{builtin_namespaces}
@@ -35,6 +35,7 @@ use Rattle.cedar_resolved.specs.declared.action.ValidatorActionId.{ValidatorActi
 use Rattle.cedar_resolved.specs.declared.entity_type.ValidatorEntityType.{ValidatorEntityType}
 use Rattle.cedar_resolved.specs.declared.schema.ValidatorSchema.{ValidatorSchema}
 use Rattle.cedar_schema_error.specs.FullNames.{FullName, Uid, uid_cmp, uid_in}
+use Rattle.cedar_schema_error.specs.KeptDeclarations.{IsAmong}
 use Rattle.cedar_sound.proofs.NameOrders.{names_exact, uids_exact}
 use Rattle.cedar_tables.specs.Declarations as tables
 use Rattle.cedar_text.specs.declared.location.Loc.{Loc}
@@ -86,12 +87,12 @@ module _ {K V : Type 0} {cmp : K → K → Ordering} (order : IsExact cmp) where
       by (inl none) = absurd none
       by (inr there) = there
 
-seen_twice : {A B C : Type 0} (f : B → C) (g : A → B) (h : A → C) → ((x : A) → f (g x) ≡ h x) → (xs : List A) → map f (map g xs) ≡ map h xs
+pub seen_twice : {A B C : Type 0} (f : B → C) (g : A → B) (h : A → C) → ((x : A) → f (g x) ≡ h x) → (xs : List A) → map f (map g xs) ≡ map h xs
 seen_twice f g h same [] = refl
 seen_twice f g h same (x ∷ xs) = λ i. same x i ∷ seen_twice f g h same xs i
 
 -- what is gathered, seen through a function
-gathered : {A B C : Type 0} (f : A → List B) (view : B → C) (g : A → List C) → ((x : A) → map view (f x) ≡ g x) → (xs : List A) → map view (flat_map f xs) ≡ flat_map g xs
+pub gathered : {A B C : Type 0} (f : A → List B) (view : B → C) (g : A → List C) → ((x : A) → map view (f x) ≡ g x) → (xs : List A) → map view (flat_map f xs) ≡ flat_map g xs
 gathered f view g each [] = refl
 gathered f view g each (x ∷ xs) = map-append view (f x) (flat_map f xs) ∙ (λ i. each x i ++ gathered f view g each xs i)
 

@@ -2,7 +2,7 @@
 -- Where the entity types and the actions of a schema are declared.
 use Rattle.std.specs.Prelude.{◌≡◌, List, Option, None, map}
 use Rattle.std.specs.List.{flat_map}
-use Rattle.cedar_data.specs.Firsts.{AllPass, SomePasses}
+use Rattle.cedar_data.specs.Firsts.{AllPass}
 use Rattle.cedar_data.specs.Maps.{get}
 use Rattle.cedar_hierarchy.specs.of_outlines.declared.outlines.ActionOutline.{ActionOutline}
 use Rattle.cedar_hierarchy.specs.of_outlines.declared.outlines.EntityOutline.{EntityOutline}
@@ -13,6 +13,7 @@ use Rattle.cedar_phases.specs.Holding.{Definition}
 use Rattle.cedar_resolved.specs.Schemas.{action_loc, action_types, types}
 use Rattle.cedar_resolved.specs.declared.schema.ValidatorSchema.{ValidatorSchema}
 use Rattle.cedar_schema_error.specs.FullNames.{FullName, Uid, uid_in}
+use Rattle.cedar_schema_error.specs.KeptDeclarations.{IsAmong}
 use Rattle.cedar_text.specs.declared.location.Loc.{Loc}
 
 -- entity types and actions that are declared, under their full names: the place of each, none where it has none
@@ -37,10 +38,6 @@ places_outlined types acts = record {
   entity_types = map (λ e. (entity_words e.0, e.1.loc)) types;
   actions = map (λ a. (uid_in a.0, a.1.loc)) acts;
 }
-
--- x is one of the list
-abbrev pub IsAmong : {A : Type 0} → List A → A → Type 0
-IsAmong xs x = SomePasses (λ y. y ≡ x) xs
 
 -- each entity type and each action of a schema has the place of a declaration of its name
 pub record IsPlaced (places : Places) (S : ValidatorSchema) : Type 0 where

@@ -1,6 +1,7 @@
 // SPDX-License-Identifier: Apache-2.0
-ghost use Rattle.std.specs.Prelude.{◌≡◌, None, Some, map, IfOk};
+ghost use Rattle.std.specs.Prelude.{◌≡◌, [], None, Some, map, IfOk};
 ghost use Rattle.std.specs.List.{AllZip, filter};
+ghost use Rattle.std.specs.Map.{keys_of};
 ghost use Rattle.cedar_data.specs.Answers.{IfRefused};
 ghost use Rattle.cedar_declared.specs.Held.{names_of};
 ghost use Rattle.cedar_hierarchy.specs.Made.{MakesEntity};
@@ -10,6 +11,7 @@ ghost use Rattle.cedar_phases.specs.Places.{IsPlaced, places_outlined};
 ghost use Rattle.cedar_checks.specs.SchemaViews.{IsConsistent, schema_in, types_of};
 ghost use Rattle.cedar_names.specs.Components.{components};
 ghost use Rattle.cedar_resolved.specs.Schemas.{action_types};
+ghost use Rattle.cedar_schema_error.specs.KeptDeclarations.{KeepsAmong, placed_action};
 ghost use Rattle.cedar_schema_error.specs.Told.{told};
 ghost use Rattle.cedar_hierarchy.specs.of_outlines.Outlines.{entity_outline_in};
 ghost use Rattle.cedar_undeclared.specs.Undeclared.{is_free, undeclared_refusal};
@@ -110,6 +112,8 @@ pub(crate) fn assemble(
     ensures refused { IfRefused result (λ e. (W : World)
         → HoldsUnfolded W all_defs.now types.full.common_types types.full.uses
         types.uses entity_types actions → OneRefuses W last_phases (told e)) }
+    ensures as_declared { IfRefused result
+        (KeepsAmong [] (map placed_action (keys_of actions))) }
 {
     let UnfoldedTypes { full, uses } = types;
     let memberships = membership_names(alloc, all_defs, &entity_types, &actions)?;

@@ -6,7 +6,7 @@ ghost use Rattle.cedar_declared.specs.of_definitions.Structures.{definitions_of}
 ghost use Rattle.cedar_qualified.specs.of_missing.Undeclared.{missing_in_definition, missing_in_each, refusal_of};
 ghost use Rattle.cedar_names.specs.declared.extensions.Extensions.{Extensions};
 ghost use Rattle.cedar_phases.specs.Holding.{AllPassed, Holds, OneRefuses, early_phases};
-ghost use Rattle.cedar_phases.specs.Kept.{is_missing};
+ghost use Rattle.cedar_phases.specs.Kept.{KeepsDeclared, is_missing};
 ghost use Rattle.cedar_schema_error.specs.Told.{told};
 ghost use Rattle.cedar_qualified.specs.of_world.Worlds.{World};
 
@@ -57,6 +57,7 @@ pub(crate) fn check_definitions(
         → refusal_of
         (missing_in_each (missing_in_definition (names_of all_defs.now))
         (definitions_of definitions.now)) ≡ Some e) }
+    ensures as_declared { IfRefused result (KeepsDeclared (definitions_of definitions.now)) }
 {
     match refuse_missing(alloc, all_defs, definitions) {
         Ok(()) => refuse_duplicates(alloc, definitions.definitions()),

@@ -1,13 +1,15 @@
 // SPDX-License-Identifier: Apache-2.0
-ghost use Rattle.std.specs.Prelude.{◌≡◌, ◌++◌, true, Some, IfOk, List};
+ghost use Rattle.std.specs.Prelude.{◌≡◌, ◌++◌, true, Some, map, IfOk, List};
 ghost use Rattle.std.specs.List.{flat_map};
+ghost use Rattle.std.specs.Map.{keys_of};
 ghost use Rattle.cedar_data.specs.Answers.{IfRefused};
 ghost use Rattle.cedar_declared.specs.Held.{names_of};
 ghost use Rattle.cedar_declared.specs.of_definitions.Structures.{definitions_of};
 ghost use Rattle.cedar_phases.specs.Holding.{AllPassed, AreTables, Definition, Holds, OneRefuses, early_phases, later_phases, world_of};
-ghost use Rattle.cedar_phases.specs.Kept.{KeepsReferences, is_missing};
+ghost use Rattle.cedar_phases.specs.Kept.{KeepsDeclarations, KeepsDeclared, KeepsReferences, is_missing, is_repeated};
 ghost use Rattle.cedar_phases.specs.Places.{IsPlaced, places_in, places_outlined};
 ghost use Rattle.cedar_checks.specs.SchemaViews.{IsConsistent, schema_in};
+ghost use Rattle.cedar_schema_error.specs.KeptDeclarations.{KeepsAmong, placed, placed_action};
 ghost use Rattle.cedar_schema_error.specs.Told.{told};
 ghost use Rattle.cedar_sound.specs.Sound.{Cause, Passes, References, Sound};
 ghost use Rattle.cedar_qualified.specs.of_missing.Undeclared.{missing_in_definition, missing_in_each, refusal_of};
@@ -60,6 +62,10 @@ fn resolve_tables(
     ensures refused { IfRefused result (λ e. (W : World) (ds : List Definition)
         → Holds W all_defs.now ds extensions.now → AreTables W tables → Passes W References
         → OneRefuses W later_phases (told e)) }
+    ensures as_declared { IfRefused result (λ e. (W : World) (ds : List Definition)
+        → Holds W all_defs.now ds extensions.now → AreTables W tables → Passes W References
+        → KeepsAmong (map placed (keys_of tables.common_types))
+        (map placed_action (keys_of tables.actions)) e) }
 {
     let Tables {
         common_types,
@@ -91,6 +97,9 @@ fn resolve_checked(
     ensures refused { IfRefused result (λ e. (W : World)
         → Holds W all_defs.now (definitions_of definitions) extensions.now → Passes W References
         → OneRefuses W later_phases (told e)) }
+    ensures as_declared { IfRefused result (λ e. (W : World)
+        → Holds W all_defs.now (definitions_of definitions) extensions.now → Passes W References
+        → KeepsDeclared (definitions_of definitions) e) }
 {
     let tables = tables_of(alloc, definitions.into_definitions())?;
     resolve_tables(alloc, all_defs, tables, extensions)
@@ -123,6 +132,9 @@ fn resolve_declarations(
         → refusal_of
         (missing_in_each (missing_in_definition (names_of declarations.all_defs))
         (definitions_of declarations.definitions)) ≡ Some e) }
+    ensures as_declared { IfRefused result (λ e. (W : World)
+        → Holds W declarations.all_defs (definitions_of declarations.definitions) extensions.now
+        → KeepsDeclared (definitions_of declarations.definitions) e) }
 {
     let Declarations {
         all_defs,
@@ -151,6 +163,10 @@ impl FromSchemaFragments for ValidatorSchema {
         // Of references that mean nothing, those that the definitions miss are kept, places and all.
         ensures kept { IfRefused result (λ e. is_missing (told e) ≡ true
             → KeepsReferences (world_of fragments.items extensions.now)
+            (flat_map definitions_of fragments.items) e) }
+        // What is declared twice or stands on a cycle is kept as it is declared, places and all.
+        ensures as_declared { IfRefused result (λ e. is_repeated (told e) ≡ true
+            → KeepsDeclarations (world_of fragments.items extensions.now)
             (flat_map definitions_of fragments.items) e) }
     {
         match declare(alloc, fragments, extensions) {

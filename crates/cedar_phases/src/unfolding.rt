@@ -1,6 +1,7 @@
 // SPDX-License-Identifier: Apache-2.0
-ghost use Rattle.std.specs.Prelude.{◌≡◌, ◌⊎◌, IfOk, List};
+ghost use Rattle.std.specs.Prelude.{◌≡◌, ◌⊎◌, [], map, IfOk, List};
 ghost use Rattle.std.specs.List.{AllZip};
+ghost use Rattle.std.specs.Map.{keys_of};
 ghost use Rattle.std.specs.declared.result.Result.TheVariants.{Ok, Err};
 ghost use Rattle.cedar_data.specs.Answers.{IfRefused};
 ghost use Rattle.cedar_data.specs.Maps.{map_values};
@@ -8,6 +9,7 @@ ghost use Rattle.cedar_declared.specs.Held.{names_of};
 ghost use Rattle.cedar_declared.specs.Targets.{resolving};
 ghost use Rattle.cedar_names.specs.Components.{components};
 ghost use Rattle.cedar_phases.specs.Holding.{HoldsTypes, uses_of};
+ghost use Rattle.cedar_schema_error.specs.KeptDeclarations.{KeepsAmong, placed};
 ghost use Rattle.cedar_schema_error.specs.Told.{told};
 ghost use Rattle.cedar_sound.specs.Sound.{Passes, RefusesAt, Unfolding};
 ghost use Rattle.cedar_unfold.specs.Full.{by_place, job_of};
@@ -94,6 +96,8 @@ fn unfold_full(
         (λ e. WhyNotUnfoldable
         (job_of (by_name (written_type components) full.common_types)
         (by_place (written_type components) full.uses) extensions.now) (told e)) }
+    ensures as_declared { IfRefused result
+        (KeepsAmong (map placed (keys_of full.common_types)) []) }
 {
     match unfold_uncounted(alloc, &full.common_types, &full.uses, extensions) {
         Ok(unfolded) => {
@@ -124,6 +128,9 @@ pub(crate) fn unfolded_types(
     ensures refused { IfRefused result (λ e. (W : World)
         → HoldsTypes W all_defs.now extensions.now common_types uses
         → RefusesAt W Unfolding (told e)) }
+    ensures as_declared { IfRefused result (λ e. (W : World)
+        → HoldsTypes W all_defs.now extensions.now common_types uses
+        → KeepsAmong (map placed (keys_of common_types)) [] e) }
 {
     match full_types(alloc, all_defs, common_types, uses) {
         Ok(full) => unfold_full(alloc, full, extensions),

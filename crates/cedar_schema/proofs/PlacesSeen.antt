@@ -31,42 +31,21 @@ use Rattle.cedar_names.specs.declared.internal_name.InternalName.{InternalName}
 use Rattle.cedar_names.specs.declared.name.EntityType.{EntityType}
 use Rattle.cedar_names.specs.declared.name.Name.{Name}
 use Rattle.cedar_phases.proofs.of_sound.NameOrders.{names_exact}
-use Rattle.cedar_phases.proofs.Placing.{placed_among}
+use Rattle.cedar_phases.proofs.KeptDeclarations.{among_either, among_left, among_right}
+use Rattle.cedar_phases.proofs.Placing.{placed_among, seen_twice}
 use Rattle.cedar_phases.specs.Holding.{Definition}
 use Rattle.cedar_phases.specs.Places as phases
-use Rattle.cedar_phases.specs.Places.{IsAmong, IsPlaced, places_in}
+use Rattle.cedar_phases.specs.Places.{IsPlaced, places_in}
 use Rattle.cedar_phases.specs.of_resolved.declared.schema.ValidatorSchema.{ValidatorSchema}
 use Rattle.cedar_schema.specs.DeclaredPlaces.{action_places, entity_places, places_of}
 use Rattle.cedar_schema_error.specs.FullNames.{FullName, Uid, uid_in}
+use Rattle.cedar_schema_error.specs.KeptDeclarations.{IsAmong}
 use Rattle.cedar_text.specs.declared.location.Loc.{Loc}
 use Rattle.cedar_written.specs.Qualifying.{action_id}
 use Rattle.cedar_written.specs.declared.conditional_name.ConditionalName.{ConditionalName}
 use Rattle.cedar_written.specs.declared.raw_name.RawName.{RawName}
 
 -- ---- lists
-
-seen_twice : {A B C : Type 0} (f : B → C) (g : A → B) (h : A → C) → ((x : A) → f (g x) ≡ h x) → (xs : List A) → map f (map g xs) ≡ map h xs
-seen_twice f g h same [] = refl
-seen_twice f g h same (x ∷ xs) = λ i. same x i ∷ seen_twice f g h same xs i
-
-module _ {A : Type 0} where
-  among_left : (xs ys : List A) (x : A) → IsAmong xs x → IsAmong (xs ++ ys) x
-  among_left [] ys x among = absurd among
-  among_left (y ∷ xs) ys x (inl here) = inl here
-  among_left (y ∷ xs) ys x (inr there) = inr (among_left xs ys x there)
-
-  among_right : (xs ys : List A) (x : A) → IsAmong ys x → IsAmong (xs ++ ys) x
-  among_right [] ys x among = among
-  among_right (y ∷ xs) ys x among = inr (among_right xs ys x among)
-
-  among_either : (xs ys : List A) (x : A) → IsAmong (xs ++ ys) x → IsAmong xs x ⊎ IsAmong ys x
-  among_either [] ys x among = inr among
-  among_either (y ∷ xs) ys x (inl here) = inl (inl here)
-  among_either (y ∷ xs) ys x (inr there) = further (among_either xs ys x there)
-    where
-      further : IsAmong xs x ⊎ IsAmong ys x → IsAmong (y ∷ xs) x ⊎ IsAmong ys x
-      further (inl first) = inl (inr first)
-      further (inr second) = inr second
 
 -- items that are each seen as one of others
 seen_among : {A B : Type 0} (f : A → B) (ps : List A) (qs : List B) → ((p : A) → IsAmong ps p → IsAmong qs (f p)) → (x : B) → IsAmong (map f ps) x → IsAmong qs x

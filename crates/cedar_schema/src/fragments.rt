@@ -13,8 +13,8 @@ ghost use Rattle.cedar_phases.specs.Holding.{world_of};
 ghost use Rattle.cedar_phases.specs.Places.{IsPlaced};
 ghost use Rattle.cedar_phases.specs.SchemaViews.{IsConsistent, schema_in};
 ghost use Rattle.cedar_schema.specs.DeclaredPlaces.{places_of};
-ghost use Rattle.cedar_phases.specs.Kept.{is_missing};
-ghost use Rattle.cedar_schema.specs.Kept.{KeepsReferencesOf};
+ghost use Rattle.cedar_phases.specs.Kept.{is_missing, is_repeated};
+ghost use Rattle.cedar_schema.specs.Kept.{KeepsDeclarationsOf, KeepsReferencesOf};
 ghost use Rattle.cedar_schema.specs.Fragments.{FragmentCause, SoundFragment, all_extensions, unnamed};
 ghost use Rattle.cedar_schema_error.specs.Told.{told};
 ghost use Rattle.cedar_schema_error.specs.declared.action_behavior.ActionBehavior.TheVariants.{ProhibitAttributes};
@@ -122,6 +122,9 @@ impl FromFragment for ValidatorSchema {
         // Of references that mean nothing, those of the fragment are kept, places and all.
         ensures kept { IfRefused result (λ e. is_missing (told e) ≡ true
             → KeepsReferencesOf all_extensions fragment e) }
+        // What is declared twice or stands on a cycle is kept as the fragment declares it, places and all.
+        ensures as_declared { IfRefused result (λ e. is_repeated (told e) ≡ true
+            → KeepsDeclarationsOf all_extensions fragment e) }
     {
         let extensions = Extensions::all_available(alloc)?;
         ValidatorSchema::from_fragment_with(alloc, fragment, &extensions)
@@ -143,6 +146,8 @@ impl FromFragment for ValidatorSchema {
             (extension_words extensions.now) (fragment_seen fragment) (told e)) }
         ensures kept { IfRefused result (λ e. is_missing (told e) ≡ true
             → KeepsReferencesOf (extension_words extensions.now) fragment e) }
+        ensures as_declared { IfRefused result (λ e. is_repeated (told e) ≡ true
+            → KeepsDeclarationsOf (extension_words extensions.now) fragment e) }
     {
         match define_alone(alloc, fragment, extensions) {
             Ok(definitions) => {

@@ -11,10 +11,10 @@ ghost use Rattle.cedar_phases.specs.Places.{IsPlaced};
 ghost use Rattle.cedar_phases.specs.SchemaViews.{IsConsistent, schema_in};
 ghost use Rattle.cedar_schema.specs.DeclaredPlaces.{IsPlacedBy, places_of};
 ghost use Rattle.cedar_schema.specs.Fragments.{SoundFragment, all_extensions};
-ghost use Rattle.cedar_schema.specs.Kept.{KeepsReferencesOf, KeepsReferencesOfText};
+ghost use Rattle.cedar_schema.specs.Kept.{KeepsDeclarationsOf, KeepsDeclarationsOfText, KeepsReferencesOf, KeepsReferencesOfText};
 ghost use Rattle.cedar_schema_error.specs.declared.schema_error.SchemaError.{SchemaError};
 ghost use Rattle.cedar_schema_errors.specs.declared.schema_error.CedarSchemaError.TheVariants.{Schema};
-ghost use Rattle.cedar_phases.specs.Kept.{is_missing};
+ghost use Rattle.cedar_phases.specs.Kept.{is_missing, is_repeated};
 ghost use Rattle.cedar_schema_error.specs.Told.{told};
 ghost use Rattle.cedar_schema.specs.Texts.{DenotesSchema, IsWellFormed, ParsingCause, SchemaCause, TextCause};
 ghost use Rattle.cedar_schema_error.specs.declared.action_behavior.ActionBehavior.TheVariants.{ProhibitAttributes};
@@ -102,6 +102,9 @@ fn with_schema(
     ensures kept { IfRefused result (λ error. (e : SchemaError) → error ≡ Schema e
         → is_missing (told e) ≡ true
         → KeepsReferencesOf (extension_words extensions.now) declared.0 e) }
+    ensures as_declared { IfRefused result (λ error. (e : SchemaError) → error ≡ Schema e
+        → is_repeated (told e) ≡ true
+        → KeepsDeclarationsOf (extension_words extensions.now) declared.0 e) }
 {
     let (fragment, warnings) = declared;
     match ValidatorSchema::from_fragment_with(alloc, fragment, extensions) {
@@ -127,6 +130,9 @@ impl FromCedarSchema for ValidatorSchema {
         // Of references that mean nothing, those of the text are kept, places and all.
         ensures kept { IfRefused result
             (KeepsReferencesOfText src.now (extension_words extensions.now)) }
+        // Types and actions that are declared are kept as the text declares them, places and all.
+        ensures as_declared { IfRefused result
+            (KeepsDeclarationsOfText src.now (extension_words extensions.now)) }
         ensures accepts { (F : Declared) (warned : List Warning)
             → IsWellFormed src.now (extension_words extensions.now) F warned
             → Accepts (λ made. Denotes (world_of_fragment F (extension_words extensions.now))
@@ -145,6 +151,7 @@ impl FromCedarSchema for ValidatorSchema {
         ensures placed { IfOk result (IsPlacedBy src.now all_extensions) }
         ensures refused { IfRefused result (TextCause src.now all_extensions) }
         ensures kept { IfRefused result (KeepsReferencesOfText src.now all_extensions) }
+        ensures as_declared { IfRefused result (KeepsDeclarationsOfText src.now all_extensions) }
         ensures accepts { (F : Declared) (warned : List Warning)
             → IsWellFormed src.now all_extensions F warned
             → Accepts (λ schema. Denotes (world_of_fragment F all_extensions) (schema_in schema))

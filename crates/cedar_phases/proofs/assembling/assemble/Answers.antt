@@ -3,8 +3,9 @@ use Rattle.cedar_names.specs.Components.{components}
 use Rattle.cedar_names.specs.declared.entity_uid.EntityUID.{EntityUID}
 use Rattle.cedar_resolved.specs.declared.action.ValidatorActionId.{ValidatorActionId}
 use Rattle.cedar_resolved.specs.declared.schema.ValidatorSchema.{ValidatorSchema}
-use Rattle.std.proofs.Common.{◌≡◌, List, None, Some, inl, inr, map}
+use Rattle.std.proofs.Common.{◌≡◌, List, [], None, Some, inl, inr, map}
 use Rattle.std.specs.List.{AllZip, filter}
+use Rattle.std.specs.Map.{keys_of}
 use Rattle.cedar_data.specs.Firsts.{IsLeast}
 use Rattle.cedar_declared.specs.Held.{names_of}
 use Rattle.cedar_hierarchy.specs.Made.{MakesEntity}
@@ -14,10 +15,12 @@ use Rattle.cedar_checks.specs.SchemaViews.{IsConsistent, schema_in, types_of}
 use Rattle.cedar_phases.proofs.Assembled.{all_are_declared, consistent, cycle_told, denoted, no_cycles, undeclared_told}
 use Rattle.cedar_phases.specs.Places.{IsPlaced, places_outlined}
 use Rattle.cedar_phases.proofs.Carried.{carried_text, passed, passed_both, refused}
+use Rattle.cedar_phases.proofs.KeptDeclarations.{keeps_none, undeclared_other}
 use Rattle.cedar_phases.proofs.Placing.{placed}
 use Rattle.cedar_phases.proofs.assembling.assemble.Goals as goal
 use Rattle.cedar_resolved.specs.Schemas.{action_types}
 use Rattle.cedar_schema_error.specs.FullNames.{Uid, uid_cmp}
+use Rattle.cedar_schema_error.specs.KeptDeclarations.{KeepsAmong, placed_action}
 use Rattle.cedar_schema_error.specs.Refusals.{CycleInActionHierarchy}
 use Rattle.cedar_schema_error.specs.Told.{told}
 use Rattle.cedar_hierarchy.specs.of_outlines.Outlines.{action_outline_in, entity_outline_in}
@@ -54,3 +57,12 @@ pub returns-in-Err-clause-refused : goal.returns-in-Err-clause-refused
 returns-in-Err-clause-refused c =
     carried_text (List (EntityUID × ValidatorActionId)) ValidatorSchema (λ e. (uid : Uid) × (told e ≡ CycleInActionHierarchy uid) × IsLeast uid_cmp (λ u. ActionOutlineDescends (names_of c.args.all_defs.now) (map action_outline_in c.args.actions) u u) uid)
     (λ e. (W : World) → HoldsUnfolded W c.args.all_defs.now c.args.types.full.common_types c.args.types.full.uses c.args.types.uses c.args.entity_types c.args.actions → OneRefuses W last_phases (told e)) (λ e d W h. inl (cycle_told W c.args.all_defs.now c.args.types.full.common_types c.args.types.full.uses c.args.types.uses c.args.entity_types c.args.actions h (told e) d)) c.in-Err.failure c.in-Err.ensures.refused
+
+pub returns-in-Ok-clause-as_declared : goal.returns-in-Ok-clause-as_declared
+returns-in-Ok-clause-as_declared c =
+    refused (λ e. undeclared_refusal (filter is_free (map components c.in_ok-undeclared.undeclared)) ≡ Some (told e)) (KeepsAmong [] (map placed_action (keys_of c.args.actions)))
+    (λ e is. keeps_none [] (map placed_action (keys_of c.args.actions)) e (undeclared_other (filter is_free (map components c.in_ok-undeclared.undeclared)) (told e) is)) c.finish.result c.finish.ensures.refused
+
+pub returns-in-Err-clause-as_declared : goal.returns-in-Err-clause-as_declared
+returns-in-Err-clause-as_declared c =
+    carried_text (List (EntityUID × ValidatorActionId)) ValidatorSchema (KeepsAmong [] (map placed_action (keys_of c.args.actions))) (KeepsAmong [] (map placed_action (keys_of c.args.actions))) (λ e kept. kept) c.in-Err.failure c.in-Err.ensures.kept

@@ -4,7 +4,7 @@ use Rattle.cedar_declared.specs.of_definitions.Structures.{definitions_of}
 use Rattle.cedar_phases.specs.Holding.{AllPassed, Holds, OneRefuses, early_phases, later_phases}
 use Rattle.cedar_checks.specs.SchemaViews.{schema_in}
 use Rattle.cedar_phases.proofs.Carried.{carried, passed, refused}
-use Rattle.cedar_phases.specs.Kept.{is_missing}
+use Rattle.cedar_phases.specs.Kept.{KeepsDeclared, is_missing}
 use Rattle.cedar_phases.proofs.KeptReferences.{Missed}
 use Rattle.cedar_phases.proofs.OtherRefusals.{later_other, true-false}
 use Rattle.cedar_phases.proofs.Composing.{refused_first, refused_later}
@@ -55,3 +55,13 @@ returns-clause-kept c =
     carried (Unit {0}) ValidatorSchema (λ e. is_missing (told e) ≡ true → Missed c.args.declarations.all_defs c.args.declarations.definitions e)
     (λ e. (W : World) → Holds W c.args.declarations.all_defs (definitions_of c.args.declarations.definitions) c.args.extensions.now → is_missing (told e) ≡ true → Missed c.args.declarations.all_defs c.args.declarations.definitions e)
     (λ e f W h. f) c.in-Err.failure c.in-Err.ensures.kept
+
+pub returns-in-Ok-clause-as_declared : goal.returns-in-Ok-clause-as_declared
+returns-in-Ok-clause-as_declared c =
+    refused (λ e. (W : World) → Holds W c.args.declarations.all_defs (definitions_of c.args.declarations.definitions) c.args.extensions.now → Passes W References → KeepsDeclared (definitions_of c.args.declarations.definitions) e) (λ e. (W : World) → Holds W c.args.declarations.all_defs (definitions_of c.args.declarations.definitions) c.args.extensions.now → KeepsDeclared (definitions_of c.args.declarations.definitions) e)
+    (λ e f W h. f W h (c.in-Ok.ensures.passes W c.args.extensions.now h).0) c.resolve_checked.result c.resolve_checked.ensures.as_declared
+
+pub returns-clause-as_declared : goal.returns-clause-as_declared
+returns-clause-as_declared c =
+    carried (Unit {0}) ValidatorSchema (KeepsDeclared (definitions_of c.args.declarations.definitions)) (λ e. (W : World) → Holds W c.args.declarations.all_defs (definitions_of c.args.declarations.definitions) c.args.extensions.now → KeepsDeclared (definitions_of c.args.declarations.definitions) e)
+    (λ e kept W h. kept) c.in-Err.failure c.in-Err.ensures.as_declared
