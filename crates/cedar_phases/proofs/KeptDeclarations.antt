@@ -86,11 +86,11 @@ module _ {A B : Type 0} where
   -- what is gathered of some is among what is gathered of more
   among_gathered : (g h : A → List B) → ((a : A) (x : B) → IsAmong (g a) x → IsAmong (h a) x) → (xs : List A) (x : B) → IsAmong (flat_map g xs) x → IsAmong (flat_map h xs) x
   among_gathered g h each [] x among = among
-  among_gathered g h each (a ∷ xs) x among = by (among_either (g a) (flat_map g xs) x among)
+  among_gathered g h each (a ∷ xs) x among = by (among_gathered g h each xs x) (among_either (g a) (flat_map g xs) x among)
     where
-      by : IsAmong (g a) x ⊎ IsAmong (flat_map g xs) x → IsAmong (flat_map h (a ∷ xs)) x
-      by (inl first) = among_left (h a) (flat_map h xs) x (each a x first)
-      by (inr later) = among_right (h a) (flat_map h xs) x (among_gathered g h each xs x later)
+      by : (IsAmong (flat_map g xs) x → IsAmong (flat_map h xs) x) → IsAmong (g a) x ⊎ IsAmong (flat_map g xs) x → IsAmong (flat_map h (a ∷ xs)) x
+      by others (inl first) = among_left (h a) (flat_map h xs) x (each a x first)
+      by others (inr later) = among_right (h a) (flat_map h xs) x (others later)
 
 -- ---- keys
 
