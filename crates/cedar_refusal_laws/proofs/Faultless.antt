@@ -7,17 +7,18 @@ use Rattle.cedar_data.specs.Sets.{contains}
 use Rattle.cedar_names.specs.Order.{words_cmp}
 use Rattle.cedar_written.specs.declared.reference_type.ReferenceType.TheVariants as kind
 use Rattle.cedar_sound.proofs.NameOrders.{names_exact}
-use Rattle.cedar_sound.proofs.NothingMissed.{pass_append}
 use Rattle.cedar_world.specs.of_declared.Names.{is_common, is_declared, is_entity, target}
 use Rattle.cedar_schema_error.specs.FullNames.{FullName}
 use Rattle.cedar_schema_error.specs.NameReferences.{NameReference}
 use Rattle.cedar_schema_error.specs.Refusals.{Refusal}
-use Rattle.cedar_world.specs.of_unfold.Faults.{attribute_faults, common_fault, either_fault, entity_fault, extension_fault, faults, of_target, open_fault, reserved_fault}
+use Rattle.cedar_world.specs.of_unfold.Faults.{common_fault, either_fault, entity_fault, extension_fault, faults, of_target, open_fault, reserved_fault}
 use Rattle.cedar_world.specs.of_unfold.Meanings as meaning
-use Rattle.cedar_world.specs.of_unfold.Written.{Written, WrittenAttributes, Boolean, Long, String, Extension, Set, Record, Entity, EntityOrCommon, CommonTypeRef, no_attributes, attribute}
+use Rattle.cedar_world.specs.of_unfold.Written.{Written}
 use Rattle.cedar_world.specs.Worlds.{World, all_namespaces, meanings, names, own}
-use Rattle.cedar_refusal_laws.specs.Kinds.{DeclareFree, HasItsKinds, HaveItsKinds, IsFree}
+use Rattle.cedar_refusal_laws.specs.Kinds.{DeclareFree, HasItsKinds, IsFree, IsOfKind}
 use Rattle.cedar_refusal_laws.specs.NeverComing.{never_comes}
+use Rattle.cedar_refusal_laws.specs.Parts.{Any}
+use Rattle.cedar_refusal_laws.proofs.EachFault.{each_fault}
 use Rattle.cedar_refusal_laws.proofs.KindsKept.{all_free}
 use Rattle.cedar_refusal_laws.proofs.Members.{found_passes, keys_of_all, known_in_map, of_member}
 
@@ -80,18 +81,12 @@ module _ (W : World) (free : DeclareFree (own W)) where
   extension_right true e = tt
   extension_right false e = (refl, tt)
 
-  mutual
-    pub type_right : (t : Written NameReference) → HasItsKinds t → AllPass IsOther (faults (meanings W) t)
-    type_right Boolean h = tt
-    type_right Long h = tt
-    type_right String h = tt
-    type_right (Extension e) h = extension_right ((meanings W).is_extension e) e
-    type_right (Set t) h = type_right t h
-    type_right (Record ts is_open) h = pass_append IsOther (open_fault is_open) (attribute_faults (meanings W) ts) (open_other is_open) (attributes_right ts h)
-    type_right (Entity r) h = entity_right r h
-    type_right (EntityOrCommon r) h = either_right r h
-    type_right (CommonTypeRef r) h = common_right r h
-
-    attributes_right : (ts : WrittenAttributes NameReference) → HaveItsKinds ts → AllPass IsOther (attribute_faults (meanings W) ts)
-    attributes_right no_attributes h = tt
-    attributes_right (attribute name required t ts) h = pass_append IsOther (faults (meanings W) t) (attribute_faults (meanings W) ts) (type_right t h.0) (attributes_right ts h.1)
+  -- so no fault of a type whose references have the kinds of their places is one of wrong kinds
+  pub type_right : (t : Written NameReference) → HasItsKinds t → AllPass IsOther (faults (meanings W) t)
+  type_right = each_fault Any Any IsOfKind (meanings W) IsOther (record {
+    of_record = λ is_open any. open_other is_open;
+    of_extension = λ e any. extension_right ((meanings W).is_extension e) e;
+    of_entity = entity_right;
+    of_either = either_right;
+    of_common = common_right;
+  })

@@ -2,9 +2,7 @@
 -- In what a fragment declares each reference has the kind of its place; and where no name is `__cedar`, no cause is one of wrong kinds.
 use Rattle.std.proofs.Common.{◌≡◌, ◌||◌, ℕ, false, List, [], ◌∷◌, Option, Some, None, codes, map, inl, inr, if◌then◌else◌, refl, sym, ap, ◌∙◌, subst}
 use Rattle.std.proofs.lemmas.List.Folds.{list_any-append}
-use Rattle.std.specs.List.{filter, flat_map}
 use Rattle.std.specs.Map.{keys_of}
-use Rattle.std.specs.Str.{bytes_eq}
 use Rattle.std.specs.declared.result.Result.TheVariants.{Ok, Err}
 use Rattle.std.specs.declared.result.Result.{Result}
 use Rattle.cedar_action_values.specs.ActionValues.{typed_attributes}
@@ -15,20 +13,22 @@ use Rattle.cedar_names.specs.of_text.Words.{is_cedar}
 use Rattle.cedar_written.specs.declared.reference_type.ReferenceType.TheVariants as kind
 use Rattle.cedar_schema_error.specs.declared.action_behavior.ActionBehavior.{ActionBehavior}
 use Rattle.cedar_schema_error.specs.declared.action_behavior.ActionBehavior.TheVariants.{PermitAttributes, ProhibitAttributes}
-use Rattle.cedar_fragment_world.specs.of_convert_fragment.Fragments.{ActionContent, AppliesTo, ByName, Declared, Definition, EntityContent, Fields, Form, Fragment, NameAt, TypeAt, written, common_type, string, long, boolean, set_of, record_of, entity, entity_or_common, extension, no_fields, field, Shaped, Listed}
-use Rattle.cedar_fragment_world.specs.FragmentFaults.{action_faults, action_types, declaration_faults, definition_faults, each_fault, entity_faults, fragment_faults, is_reserved, reserved_in, with_attributes}
-use Rattle.cedar_fragment_world.specs.FragmentWorlds.{action_at, action_of, action_type, action_uid, common_at, context_of, entity_at, entity_of, entity_types_of, fields_of, form_of, full_name, namespace_of, namespaces_of, principals_of, reference, reference_cmp, resources_of, type_of, world_of_fragment}
+use Rattle.cedar_fragment_world.specs.of_convert_fragment.Fragments.{ActionContent, AppliesTo, Definition, EntityContent, Fields, Form, Fragment, NameAt, TypeAt, written, common_type, string, long, boolean, set_of, record_of, entity, entity_or_common, extension, no_fields, field, Shaped, Listed}
+use Rattle.cedar_fragment_world.specs.FragmentFaults.{definition_faults, fragment_faults, is_reserved, reserved_in, with_attributes}
+use Rattle.cedar_fragment_world.specs.FragmentWorlds.{action_at, action_of, action_uid, common_at, context_of, entity_at, entity_of, entity_types_of, fields_of, form_of, full_name, namespace_of, namespaces_of, principals_of, reference, reference_cmp, resources_of, type_of, world_of_fragment}
 use Rattle.cedar_fragment_world.specs.of_namespace_definitions.Faults.{attribute_faults, prohibited, refusal_of, value_refusal}
-use Rattle.cedar_sound.proofs.NothingMissed.{pass_append, pass_flat, pass_map, pass_weaker}
+use Rattle.cedar_sound.proofs.NothingMissed.{pass_flat, pass_map, pass_weaker}
 use Rattle.cedar_schema_error.specs.FullNames.{FullName, Uid}
 use Rattle.cedar_schema_error.specs.NameReferences.{NameReference}
-use Rattle.cedar_schema_error.specs.Refusals.{ActionEntityTypeDeclared, Refusal, ReservedName}
+use Rattle.cedar_schema_error.specs.Refusals.{Refusal, ReservedName}
 use Rattle.cedar_world.specs.Definitions.{Namespace}
 use Rattle.cedar_world.specs.Worlds.{own}
 use Rattle.cedar_schema.specs.Fragments.{FragmentCause}
-use Rattle.cedar_refusal_laws.specs.Kinds.{ActionHasKinds, AreOf, DeclareFree, EntityHasKinds, HasItsKinds, HaveItsKinds, HaveTheirKinds, IsFree, NamespaceHasKinds}
+use Rattle.cedar_refusal_laws.specs.Kinds.{ActionHasKinds, AreOf, DeclareFree, EntityHasKinds, HasItsKinds, HaveTheirKinds, IsFree, NamespaceHasKinds}
 use Rattle.cedar_refusal_laws.specs.NeverComing.{never_comes}
+use Rattle.cedar_refusal_laws.proofs.DefinitionFaults.{definition_fails}
 use Rattle.cedar_refusal_laws.proofs.Faultless.{IsOther}
+use Rattle.cedar_refusal_laws.proofs.KindsKept.{HaveTheirs}
 use Rattle.cedar_refusal_laws.proofs.RuledOut.{ruled_out}
 use Rattle.cedar_refusal_laws.proofs.Members.{of_first, pass_each_item, pass_set_of}
 
@@ -45,12 +45,12 @@ module _ (ns : Option FullName) where
     form_kinds long = tt
     form_kinds boolean = tt
     form_kinds (set_of element) = type_kinds element
-    form_kinds (record_of parts is_open) = fields_kinds parts
+    form_kinds (record_of parts is_open) = (tt, fields_kinds parts)
     form_kinds (entity name) = refl
     form_kinds (entity_or_common name) = refl
     form_kinds (extension word) = tt
 
-    fields_kinds : (fs : Fields) → HaveItsKinds (fields_of ns fs)
+    fields_kinds : (fs : Fields) → HaveTheirs (fields_of ns fs)
     fields_kinds no_fields = tt
     fields_kinds (field name ty annotations required others) = (type_kinds ty, fields_kinds others)
 
@@ -64,7 +64,7 @@ module _ (ns : Option FullName) where
   entity_kinds (Listed ids) = record { parents = tt; shape = tt; tags = tt }
 
   context_kinds : (a : Option AppliesTo) → HasItsKinds (context_of ns a)
-  context_kinds None = tt
+  context_kinds None = (tt, tt)
   context_kinds (Some a) = type_kinds a.context
 
   pub action_kinds : (a : ActionContent) → ActionHasKinds (action_of ns a)
@@ -134,19 +134,12 @@ prohibited_other ProhibitAttributes (id ∷ ids) = (refl, tt)
 
 module _ (behavior : ActionBehavior) where
   definition_other : (n : Option FullName × Definition) → IsFreeNamespace n → AllPass IsOther (definition_faults behavior n)
-  definition_other n free = pass_append IsOther (declaration_faults behavior n.1) (each_fault n.0 n.1)
-      (pass_append IsOther (action_types n.1.entity_types) (prohibited behavior (with_attributes n.1.actions))
-      (pass_map IsOther (λ e. ActionEntityTypeDeclared) named (pass_each_item (λ e. IsOther ActionEntityTypeDeclared) (λ e. refl) named)) (prohibited_other behavior (with_attributes n.1.actions)))
-      (pass_append IsOther (flat_map (action_faults n.0) n.1.actions) (flat_map (entity_faults n.0) n.1.entity_types)
-      (pass_flat IsOther (action_faults n.0) n.1.actions (pass_each_item (λ a. AllPass IsOther (action_faults n.0 a)) each_action n.1.actions))
-      (pass_flat IsOther (entity_faults n.0) n.1.entity_types (pass_each_item (λ e. AllPass IsOther (entity_faults n.0 e)) (λ e. reserved_none n free (full_name n.0 e.0)) n.1.entity_types)))
-    where
-      named : ByName EntityContent
-      named = filter (λ e. bytes_eq e.0 (codes "Action")) n.1.entity_types
-
-      each_action : (a : List ℕ × Declared ActionContent) → AllPass IsOther (action_faults n.0 a)
-      each_action a = pass_append IsOther (reserved_in n.0 (action_type n.0)) (attribute_faults (action_uid n.0 a.0) a.1.content.attributes)
-          (reserved_none n free (action_type n.0)) (attributes_other (action_uid n.0 a.0) a.1.content)
+  definition_other n free = definition_fails never_comes behavior n (record {
+    of_types = refl;
+    of_names = reserved_none n free;
+    of_actions = prohibited_other behavior (with_attributes n.1.actions);
+    of_attributes = pass_each_item (λ a. AllPass IsOther (attribute_faults (action_uid n.0 a.0) a.1.content.attributes)) (λ a. attributes_other (action_uid n.0 a.0) a.1.content) n.1.actions;
+  })
 
   -- no cause of a fragment of such namespaces is one of wrong kinds
   pub fragment_other : (extensions : List (List ℕ)) (F : Fragment) (e : Refusal) → AllPass IsFreeNamespace F → FragmentCause behavior extensions F e → never_comes e ≡ false

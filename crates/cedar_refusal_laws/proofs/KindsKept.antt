@@ -1,6 +1,6 @@
 -- SPDX-License-Identifier: Apache-2.0
 -- Where the definitions of a world have the kinds of their places, so do its builtin types and aliases, and what its tables gather of all of them.
-use Rattle.std.proofs.Common.{◌≡◌, ◌++◌, ℕ, List, [], ◌∷◌, map, refl}
+use Rattle.std.proofs.Common.{◌≡◌, ◌++◌, ℕ, List, [], ◌∷◌, refl}
 use Rattle.std.specs.List.{filter, flat_map}
 use Rattle.std.specs.Map.{keys_of}
 use Rattle.cedar_data.specs.Firsts.{AllPass}
@@ -10,12 +10,18 @@ use Rattle.cedar_written.specs.declared.reference_type.ReferenceType.TheVariants
 use Rattle.cedar_sound.proofs.NothingMissed.{pass_append, pass_each, pass_flat, pass_map, pass_map_of, pass_weaker}
 use Rattle.cedar_schema_error.specs.FullNames.{FullName, Uid, uid_cmp}
 use Rattle.cedar_schema_error.specs.NameReferences.{NameReference}
-use Rattle.cedar_schema_error.specs.Refusals.{Context, Shape, Tags, UsePlace}
 use Rattle.cedar_world.specs.of_unfold.Written.{Written, WrittenAttributes, Boolean, Long, String, Extension, Set, Record, Entity, EntityOrCommon, CommonTypeRef, no_attributes, attribute}
-use Rattle.cedar_world.specs.Definitions.{Namespace, parents_of, shape_of, tags_of}
+use Rattle.cedar_world.specs.Definitions.{Namespace, parents_of}
 use Rattle.cedar_world.specs.Undeclared.{all_entity_references, applications, attribute_entity_references, entity_parents, entity_references, references_to_entities}
 use Rattle.cedar_world.specs.Worlds.{World, actions, alias, aliases, all_namespaces, builtins, common_types, entity_types, extension_type, is_free, names, own, uses}
-use Rattle.cedar_refusal_laws.specs.Kinds.{ActionHasKinds, AreOf, DeclareFree, EntityHasKinds, HasItsKinds, HaveItsKinds, HaveTheirKinds, IsFree, NamespaceHasKinds}
+use Rattle.cedar_refusal_laws.specs.Kinds.{ActionHasKinds, AreOf, DeclareFree, EntityHasKinds, HasItsKinds, HaveTheirKinds, IsFree, IsOfKind, NamespaceHasKinds}
+use Rattle.cedar_refusal_laws.specs.Parts.{Any, EachPartOf}
+use Rattle.cedar_refusal_laws.proofs.TypesKept.{EntityHas, NamespaceHas}
+use Rattle.cedar_refusal_laws.proofs.TypesKept as types
+
+-- the references in attributes have the kinds of their places
+abbrev pub HaveTheirs : WrittenAttributes NameReference → Type 0
+HaveTheirs = EachPartOf Any Any IsOfKind
 
 -- the references of a type that stand where only an entity type may stand have that kind
 mutual
@@ -25,12 +31,12 @@ mutual
   type_entities String h = tt
   type_entities (Extension e) h = tt
   type_entities (Set t) h = type_entities t h
-  type_entities (Record ts is_open) h = attribute_entities ts h
+  type_entities (Record ts is_open) h = attribute_entities ts h.1
   type_entities (Entity r) h = (h, tt)
   type_entities (EntityOrCommon r) h = tt
   type_entities (CommonTypeRef r) h = tt
 
-  attribute_entities : (ts : WrittenAttributes NameReference) → HaveItsKinds ts → AreOf kind.Entity (attribute_entity_references ts)
+  attribute_entities : (ts : WrittenAttributes NameReference) → HaveTheirs ts → AreOf kind.Entity (attribute_entity_references ts)
   attribute_entities no_attributes h = tt
   attribute_entities (attribute name required t ts) h =
       pass_append (λ (r : NameReference). r.kind ≡ kind.Entity) (entity_references t) (attribute_entity_references ts) (type_entities t h.0) (attribute_entities ts h.1)
@@ -57,10 +63,21 @@ module _ (W : World) (kinds : HaveTheirKinds W.namespaces) where
     (record { common_types = pass_map_of words_cmp HasItsKinds (aliases (own W) W.extensions) aliases_have; entity_types = tt; actions = tt }, tt),
   )
 
+  -- so does each type of a namespace
+  types_kept : AllPass (NamespaceHas HasItsKinds) W.namespaces
+  types_kept = pass_weaker NamespaceHasKinds (NamespaceHas HasItsKinds) (λ ns h. record {
+    of_common_types = h.common_types;
+    of_entity_types = pass_weaker (λ e. EntityHasKinds e.1) (λ e. EntityHas HasItsKinds e.1) (λ e k. (k.shape, k.tags)) ns.entity_types h.entity_types;
+    of_actions = pass_weaker (λ a. ActionHasKinds a.1) (λ a. HasItsKinds a.1.context) (λ a k. k.context) ns.actions h.actions;
+  }) W.namespaces kinds
+
   -- its common types
   pub commons_have : AllPass (λ c. HasItsKinds c.1) (common_types W)
-  commons_have = pass_map_of words_cmp HasItsKinds (flat_map (λ ns. ns.common_types) (all_namespaces W)) (pass_flat (λ c. HasItsKinds c.1) (λ ns. ns.common_types) (all_namespaces W)
-      (pass_weaker NamespaceHasKinds (λ ns. AllPass (λ c. HasItsKinds c.1) ns.common_types) (λ ns h. h.common_types) (all_namespaces W) namespaces_have))
+  commons_have = types.commons_have HasItsKinds W types_kept builtins_have aliases_have
+
+  -- its uses of types
+  pub uses_have : AllPass (λ u. HasItsKinds u.1) (uses W)
+  uses_have = types.uses_have HasItsKinds W types_kept builtins_have aliases_have
 
   entities_have : AllPass (λ e. EntityHasKinds e.1) (entity_types W)
   entities_have = pass_map_of words_cmp EntityHasKinds (flat_map (λ ns. ns.entity_types) (all_namespaces W)) (pass_flat (λ e. EntityHasKinds e.1) (λ ns. ns.entity_types) (all_namespaces W)
@@ -69,26 +86,6 @@ module _ (W : World) (kinds : HaveTheirKinds W.namespaces) where
   actions_have : AllPass (λ a. ActionHasKinds a.1) (actions W)
   actions_have = pass_map_of uid_cmp ActionHasKinds (flat_map (λ ns. ns.actions) (all_namespaces W)) (pass_flat (λ a. ActionHasKinds a.1) (λ ns. ns.actions) (all_namespaces W)
       (pass_weaker NamespaceHasKinds (λ ns. AllPass (λ a. ActionHasKinds a.1) ns.actions) (λ ns h. h.actions) (all_namespaces W) namespaces_have))
-
-  -- its uses of types
-  pub uses_have : AllPass (λ u. HasItsKinds u.1) (uses W)
-  uses_have = pass_append (λ u. HasItsKinds u.1) (shapes ++ tags) contexts
-      (pass_append (λ u. HasItsKinds u.1) shapes tags
-      (pass_flat (λ u. HasItsKinds u.1) (λ e. map (λ t. (Shape e.0, t)) (shape_of e.1)) (entity_types W)
-      (pass_weaker (λ e. EntityHasKinds e.1) (λ e. AllPass (λ u. HasItsKinds u.1) (map (λ t. (Shape e.0, t)) (shape_of e.1))) (λ e h. pass_map (λ u. HasItsKinds u.1) (λ t. (Shape e.0, t)) (shape_of e.1) h.shape) (entity_types W) entities_have))
-      (pass_flat (λ u. HasItsKinds u.1) (λ e. map (λ t. (Tags e.0, t)) (tags_of e.1)) (entity_types W)
-      (pass_weaker (λ e. EntityHasKinds e.1) (λ e. AllPass (λ u. HasItsKinds u.1) (map (λ t. (Tags e.0, t)) (tags_of e.1))) (λ e h. pass_map (λ u. HasItsKinds u.1) (λ t. (Tags e.0, t)) (tags_of e.1) h.tags) (entity_types W) entities_have)))
-      (pass_map (λ u. HasItsKinds u.1) (λ a. (Context a.0, a.1.context)) (actions W)
-      (pass_weaker (λ a. ActionHasKinds a.1) (λ a. HasItsKinds a.1.context) (λ a h. h.context) (actions W) actions_have))
-    where
-      shapes : List (UsePlace × Written NameReference)
-      shapes = flat_map (λ e. map (λ t. (Shape e.0, t)) (shape_of e.1)) (entity_types W)
-
-      tags : List (UsePlace × Written NameReference)
-      tags = flat_map (λ e. map (λ t. (Tags e.0, t)) (tags_of e.1)) (entity_types W)
-
-      contexts : List (UsePlace × Written NameReference)
-      contexts = map (λ a. (Context a.0, a.1.context)) (actions W)
 
   -- the references that must mean entity types have that kind
   abbrev IsOfEntity : NameReference → Type 0

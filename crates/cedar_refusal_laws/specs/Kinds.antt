@@ -8,30 +8,21 @@ use Rattle.cedar_written.specs.declared.reference_type.ReferenceType.TheVariants
 use Rattle.cedar_world.specs.of_declared.Names.{Names}
 use Rattle.cedar_schema_error.specs.FullNames.{FullName, Uid}
 use Rattle.cedar_schema_error.specs.NameReferences.{ActionReference, NameReference}
-use Rattle.cedar_world.specs.of_unfold.Written.{Written, WrittenAttributes, Boolean, Long, String, Extension, Set, Record, Entity, EntityOrCommon, CommonTypeRef, no_attributes, attribute}
+use Rattle.cedar_world.specs.of_unfold.Written.{Written}
 use Rattle.cedar_world.specs.Definitions.{ActionDefinition, EntityDefinition, Namespace, parents_of, shape_of, tags_of}
+use Rattle.cedar_refusal_laws.specs.Parts.{Any, EachPart}
+
+-- the reference has this kind
+abbrev pub IsOfKind : ReferenceType → NameReference → Type 0
+IsOfKind kind r = r.kind ≡ kind
 
 -- each of these references has this kind
 abbrev pub AreOf : ReferenceType → List NameReference → Type 0
-AreOf kind rs = AllPass (λ r. r.kind ≡ kind) rs
+AreOf kind rs = AllPass (IsOfKind kind) rs
 
 -- each reference in a type, however deep, has the kind of its place
-abbrev mutual
-  pub HasItsKinds : Written NameReference → Type 0
-  HasItsKinds Boolean = Unit {0}
-  HasItsKinds Long = Unit {0}
-  HasItsKinds String = Unit {0}
-  HasItsKinds (Extension e) = Unit {0}
-  HasItsKinds (Set element) = HasItsKinds element
-  HasItsKinds (Record parts is_open) = HaveItsKinds parts
-  HasItsKinds (Entity r) = r.kind ≡ kind.Entity
-  HasItsKinds (EntityOrCommon r) = r.kind ≡ kind.CommonOrEntity
-  HasItsKinds (CommonTypeRef r) = r.kind ≡ kind.Common
-
-  -- so in the types of attributes
-  pub HaveItsKinds : WrittenAttributes NameReference → Type 0
-  HaveItsKinds no_attributes = Unit {0}
-  HaveItsKinds (attribute name required ty others) = HasItsKinds ty × HaveItsKinds others
+abbrev pub HasItsKinds : Written NameReference → Type 0
+HasItsKinds = EachPart Any Any IsOfKind
 
 -- so in an entity type, whose parents are entity types
 pub record EntityHasKinds (e : EntityDefinition NameReference) : Type 0 where

@@ -15,9 +15,10 @@ ghost use Rattle.cedar_phases.specs.Holding.{Definition, Definitions, world_of};
 ghost use Rattle.cedar_refusal_laws.specs.Kinds.{DeclareFree, HaveTheirKinds, NamespaceHasKinds};
 ghost use Rattle.cedar_refusal_laws.specs.Made.{IsMade};
 ghost use Rattle.cedar_refusal_laws.specs.NeverComing.{never_comes};
+ghost use Rattle.cedar_refusal_laws.specs.NotOfTexts.{never_of_texts};
 ghost use Rattle.cedar_schema.specs.Fragments.{FragmentCause};
 ghost use Rattle.cedar_schema.specs.Texts.{TextCause};
-ghost use Rattle.cedar_schema_error.specs.Refusals.{Refusal};
+ghost use Rattle.cedar_schema_error.specs.Refusals.{HandedIn, Refusal};
 ghost use Rattle.cedar_schema_error.specs.Told.{told};
 ghost use Rattle.cedar_schema_error.specs.declared.action_behavior.ActionBehavior.{ActionBehavior};
 ghost use Rattle.cedar_schema_error.specs.declared.schema_error.SchemaError.{SchemaError};
@@ -40,6 +41,13 @@ pub fn kinds_rule_out()
     ensures definitions { (fs : List Definitions) (X : Extensions) (e : Refusal)
         → HaveTheirKinds (world_of fs X).namespaces
         → Cause (world_of fs X) e → never_comes e ≡ false }
+{}
+
+/// A law: no world is refused with an error that no rule of schemas gives, such as one of closures, of JSON or of
+/// expressions, or one that only a caller makes, whatever the kinds of its references. It does nothing when it runs.
+#[tactic(auto, using(crate::proofs::NoCallers::never_handed_in))]
+pub fn errors_of_callers()
+    ensures worlds { (W : World) (e : SchemaError) → Cause W (HandedIn e) → ⊥ }
 {}
 
 /// A law: in the definition that declarations become in a namespace, and so in those that a fragment becomes, each
@@ -66,4 +74,12 @@ pub fn fragments_and_texts()
         → FragmentCause behavior extensions (fragment_seen f) e → never_comes e ≡ false }
     ensures text { (text : List ℕ) (extensions : List (List ℕ)) (e : SchemaError)
         → TextCause text extensions (Schema e) → never_comes (told e) ≡ false }
+{}
+
+/// A law: no text is refused for what JSON or code alone can come to: attributes of actions, a full name that is declared
+/// twice as the same kind, an open record, or an extension type that isn't known. It does nothing when it runs.
+#[tactic(auto, using(crate::proofs::TextsAlone::text_alone))]
+pub fn texts_alone()
+    ensures text { (text : List ℕ) (extensions : List (List ℕ)) (e : SchemaError)
+        → TextCause text extensions (Schema e) → never_of_texts (told e) ≡ false }
 {}
