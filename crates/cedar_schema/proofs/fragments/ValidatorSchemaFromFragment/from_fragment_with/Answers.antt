@@ -31,7 +31,7 @@ pub returns-in-Ok-clause-as_declared : goal.returns-in-Ok-clause-as_declared
 returns-in-Ok-clause-as_declared c =
     refused (λ e. is_repeated (told e) ≡ true → KeepsDeclarations (world_of c.in-Ok.definitions.items c.args.extensions.now) (flat_map definitions_of c.in-Ok.definitions.items) e)
     (λ e. is_repeated (told e) ≡ true → KeepsDeclarationsOf (extension_words c.args.extensions.now) c.args.fragment e)
-    (λ e kept is. (flat_map definitions_of c.in-Ok.definitions.items, (c.in-Ok.ensures.definitions, subst (λ W. KeepsDeclarations W (flat_map definitions_of c.in-Ok.definitions.items) e) c.in-Ok.ensures.world (kept is))))
+    (λ e kept is. (flat_map definitions_of c.in-Ok.definitions.items, c.in-Ok.ensures.definitions, subst (λ W. KeepsDeclarations W (flat_map definitions_of c.in-Ok.definitions.items) e) c.in-Ok.ensures.world (kept is)))
     c.from_schema_fragments.result c.from_schema_fragments.ensures.as_declared
 
 pub returns-in-Err-clause-as_declared : goal.returns-in-Err-clause-as_declared
