@@ -118,7 +118,7 @@ module _ {N A : Type 0} {R : ref_name.Ghosts N} where
     action = λ u. any_map (is_at (uid_cmp (uid_in u))) uid_in (fold with_definition (no_names alloc) ds).actions ∙ all_actions_gained (no_names alloc) ds u ∙ none_of (is_action (declared_names ds) (uid_in u));
   }
 
-  fragments_folded : (all : AllDefs) (fs : List (ValidatorSchemaFragment N A R)) → fold with_fragment all fs ≡ fold with_definition all (flat_map definitions_of fs)
+  pub fragments_folded : (all : AllDefs) (fs : List (ValidatorSchemaFragment N A R)) → fold with_fragment all fs ≡ fold with_definition all (flat_map definitions_of fs)
   unfolding with_fragment
   fragments_folded all [] = refl
   fragments_folded all (f ∷ fs) = fragments_folded (with_fragment all f) fs ∙ sym (fold-append with_definition all (definitions_of f) (flat_map definitions_of fs))

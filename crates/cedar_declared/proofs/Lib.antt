@@ -1,7 +1,9 @@
 -- SPDX-License-Identifier: Apache-2.0
+pub mod Among
 pub mod Basenames
 pub mod FoundTargets
 pub mod Gains
+pub mod HeldPlaces
 pub mod Indexed
 pub mod Looked
 pub mod QualifiedNames

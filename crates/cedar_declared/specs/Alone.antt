@@ -1,6 +1,6 @@
 -- SPDX-License-Identifier: Apache-2.0
 -- The least action of each id, of those whose type has no namespace.
-use Rattle.std.specs.Prelude.{◌≡◌, ◌&&◌, ℕ, not, Bool, true, cond, List, Option, Some, None, fold}
+use Rattle.std.specs.Prelude.{◌≡◌, ◌&&◌, ℕ, not, Bool, true, cond, List, Option, Some, None, IfSome, fold, map}
 use Rattle.std.specs.BTreeMap.{is_at}
 use Rattle.std.specs.Option.{option_map}
 use Rattle.std.specs.Ordering.{is_lt}
@@ -11,6 +11,7 @@ use Rattle.cedar_names.specs.declared.entity_uid.Eid.{Eid}
 use Rattle.cedar_names.specs.declared.entity_uid.EntityUID.{EntityUID}
 use Rattle.cedar_names.specs.Order.{word_cmp}
 use Rattle.cedar_schema_error.specs.FullNames.{Uid, is_qualified, uid_cmp, uid_in}
+use Rattle.cedar_schema_error.specs.KeptDeclarations.{IsAmong}
 
 module _ {A : Type 0} (passes : A → Bool) (cmp : A → A → Ordering) where
   -- whether it comes before the best so far
@@ -49,3 +50,8 @@ improves index u = not (is_qualified (uid_in u).ty) && precedes (is_alone (uid_i
 -- the index has at each id the least action of that id whose type has no namespace
 abbrev pub Indexes : List Uid → List (Eid × EntityUID) → Type 0
 Indexes own index = (id : Eid) → indexed index id ≡ least_alone own (eid_text id)
+
+-- so the index of actions, which has none but them
+pub record IndexesActions (own : List EntityUID) (index : List (Eid × EntityUID)) : Type 0 where
+  pub least : Indexes (map uid_in own) index
+  pub held : (id : Eid) → IfSome (get eid_cmp index id) (IsAmong own)

@@ -5,6 +5,7 @@ pub mod Alone
 pub mod Basenames
 pub mod Gathering
 pub mod Held
+pub mod HeldPlaces
 pub mod Names
 pub mod Targets
 pub mod TypeNames

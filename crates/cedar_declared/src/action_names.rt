@@ -1,11 +1,12 @@
 // SPDX-License-Identifier: Apache-2.0
 //! Actions, with an index of those whose type has no namespace.
-ghost use Rattle.std.specs.Prelude.{◌≡◌, [], map, IfOk};
+ghost use Rattle.std.specs.Prelude.{◌≡◌, [], map, IfOk, IfSome};
 ghost use Rattle.std.specs.Option.{option_copied, option_map};
 ghost use Rattle.cedar_data.specs.Sets.{contains};
 ghost use Rattle.cedar_names.specs.EntityUids.{eid_text};
 ghost use Rattle.cedar_schema_error.specs.FullNames.{is_qualified, uid_in};
-ghost use Rattle.cedar_declared.specs.Alone.{Indexes, improves, least_alone};
+ghost use Rattle.cedar_schema_error.specs.KeptDeclarations.{IsAmong};
+ghost use Rattle.cedar_declared.specs.Alone.{IndexesActions, improves, least_alone};
 ghost use Rattle.cedar_declared.specs.Gathering.{action_cmp};
 
 use cedar_data::{Dup, Map, Mem, Set, SetIter};
@@ -28,13 +29,11 @@ impl Model for ActionNames {
 
     ghost Value = { List EntityUID };
 
-    ghost use Rattle.std.specs.Prelude.{map};
-    ghost use Rattle.cedar_schema_error.specs.FullNames.{uid_in};
-    ghost use Rattle.cedar_declared.specs.Alone.{Indexes};
+    ghost use Rattle.cedar_declared.specs.Alone.{IndexesActions};
 
     ghost view = { λ a. a.uids };
 
-    ghost invariant = { λ a. Indexes (map uid_in a.uids) a.alone };
+    ghost invariant = { λ a. IndexesActions a.uids a.alone };
 }
 
 impl ActionNames {
@@ -69,8 +68,9 @@ impl ActionNames {
 
     /// The least of this id whose type has no namespace.
     pub(crate) fn alone(&self, id: &Eid) -> Option<&EntityUID>
-        ensures { option_map uid_in (option_copied result)
+        ensures least { option_map uid_in (option_copied result)
             ≡ least_alone (map uid_in self.now) (eid_text id.now) }
+        ensures held { IfSome (option_copied result) (IsAmong self.now) }
     {
         self.alone.get(id)
     }
@@ -99,7 +99,7 @@ fn improves(index: &Map<Eid, EntityUID>, action: &EntityUID) -> bool
 /// The least action of each id whose type has no namespace.
 #[tactic(auto, using(crate::proofs::Indexed::index_loop))]
 fn index_alone(alloc: Global, actions: SetIter<'_, EntityUID>) -> Mem<Map<Eid, EntityUID>>
-    ensures { IfOk result (λ index. Indexes (map uid_in actions.entry) index) }
+    ensures { IfOk result (IndexesActions actions.entry) }
 {
     let mut index = Map::new(alloc);
     for action in actions {

@@ -1,9 +1,12 @@
 // SPDX-License-Identifier: Apache-2.0
-ghost use Rattle.std.specs.Prelude.{◌≡◌, fold, OnOk, IfOk};
+ghost use Rattle.std.specs.Prelude.{◌≡◌, fold, map, OnOk, IfOk};
 ghost use Rattle.std.specs.List.{flat_map};
+ghost use Rattle.cedar_schema_error.specs.KeptDeclarations.{placed, placed_action};
+ghost use Rattle.cedar_definitions.specs.DeclaredNames.{all_actions, all_types};
 ghost use Rattle.cedar_definitions.specs.Structures.{definitions_of};
 ghost use Rattle.cedar_declared.specs.Gathering.{declared_names, gathered, no_names, with_actions, with_common_types, with_definition, with_entity_types, with_fragment};
 ghost use Rattle.cedar_declared.specs.Held.{names_of};
+ghost use Rattle.cedar_declared.specs.HeldPlaces.{HeldAmong};
 ghost use Rattle.cedar_declared.specs.Names.{SameNames};
 ghost use Rattle.cedar_declared.specs.TypeNames.{with_name};
 
@@ -144,8 +147,11 @@ impl AllDefs {
         alloc: Global,
         fragments: &[ValidatorSchemaFragment<N, A>],
     ) -> Mem<AllDefs>
-        ensures { IfOk result (λ all. SameNames (names_of all)
+        ensures names { IfOk result (λ all. SameNames (names_of all)
             (declared_names (flat_map definitions_of fragments.now))) }
+        ensures held { IfOk result
+            (HeldAmong (map placed (all_types (flat_map definitions_of fragments.now)))
+            (map placed_action (all_actions (flat_map definitions_of fragments.now)))) }
     {
         let names = Gathered::of_all(alloc, fragments)?;
         let all = names.indexed(alloc)?;

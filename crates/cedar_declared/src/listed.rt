@@ -1,7 +1,8 @@
 // SPDX-License-Identifier: Apache-2.0
-ghost use Rattle.std.specs.Prelude.{◌≡◌, [], ◌∷◌, map, IfOk};
+ghost use Rattle.std.specs.Prelude.{◌≡◌, [], ◌∷◌, map, IfOk, IfSome};
 ghost use Rattle.std.specs.List.{filter};
 ghost use Rattle.std.specs.Option.{option_copied, option_map};
+ghost use Rattle.cedar_data.specs.Firsts.{AllPass};
 ghost use Rattle.cedar_data.specs.Sets.{contains};
 ghost use Rattle.cedar_names.specs.Components.{components, loc_of};
 ghost use Rattle.cedar_names.specs.EntityUids.{eid_text};
@@ -11,6 +12,7 @@ ghost use Rattle.cedar_schema_error.specs.FullNames.{is_qualified, uid_in};
 ghost use Rattle.cedar_written.specs.declared.reference_type.ReferenceType.TheVariants.{CommonOrEntity};
 ghost use Rattle.cedar_declared.specs.Alone.{least_alone};
 ghost use Rattle.cedar_declared.specs.Held.{names_of, type_names};
+ghost use Rattle.cedar_declared.specs.HeldPlaces.{IsHeldAction, IsHeldType};
 ghost use Rattle.cedar_declared.specs.Names.{is_declared};
 ghost use Rattle.cedar_declared.specs.TypeNames.{place_alone};
 
@@ -32,8 +34,9 @@ impl TypeNames {
     /// Those that have a namespace, in order.
     #[tactic(auto, using(crate::proofs::QualifiedNames::listed))]
     fn qualified_names(&self) -> SetIter<'_, InternalName>
-        ensures { filter is_qualified (map components result)
+        ensures qualified { filter is_qualified (map components result)
             ≡ filter is_qualified (type_names self.now) }
+        ensures all { result ≡ self.now.qualified }
     {
         self.qualified.iter()
     }
@@ -76,31 +79,35 @@ impl AllDefs {
 
     /// The names of declared entity types; those that have a namespace are all there, in order.
     pub fn qualified_entity_types(&self) -> SetIter<'_, InternalName>
-        ensures { filter is_qualified (map components result)
+        ensures qualified { filter is_qualified (map components result)
             ≡ filter is_qualified (names_of self.now).entity_types }
+        ensures held { AllPass (IsHeldType self.now) result }
     {
         self.entity_types.qualified_names()
     }
 
     /// The names of declared common types; those that have a namespace are all there, in order.
     pub fn qualified_common_types(&self) -> SetIter<'_, InternalName>
-        ensures { filter is_qualified (map components result)
+        ensures qualified { filter is_qualified (map components result)
             ≡ filter is_qualified (names_of self.now).common_types }
+        ensures held { AllPass (IsHeldType self.now) result }
     {
         self.common_types.qualified_names()
     }
 
     /// The least declared action of this id whose type has no namespace.
     pub fn action_alone(&self, id: &Eid) -> Option<&EntityUID>
-        ensures { option_map uid_in (option_copied result)
+        ensures least { option_map uid_in (option_copied result)
             ≡ least_alone (names_of self.now).actions (eid_text id.now) }
+        ensures held { IfSome (option_copied result) (IsHeldAction self.now) }
     {
         self.actions.alone(id)
     }
 
     /// The declared actions, in order.
     pub fn actions(&self) -> SetIter<'_, EntityUID>
-        ensures { map uid_in result ≡ (names_of self.now).actions }
+        ensures uids { map uid_in result ≡ (names_of self.now).actions }
+        ensures held { AllPass (IsHeldAction self.now) result }
     {
         self.actions.iter()
     }
