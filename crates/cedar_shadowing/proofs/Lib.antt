@@ -1,4 +1,5 @@
 -- SPDX-License-Identifier: Apache-2.0
+pub mod KeptPairs
 pub mod LeastActions
 pub mod LeastTypes
 pub mod LookedUp

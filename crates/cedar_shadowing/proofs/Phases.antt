@@ -8,6 +8,7 @@ use Rattle.cedar_schema_error.specs.Refusals.{Refusal, TypeShadowing}
 use Rattle.cedar_declared.specs.Names.{Names}
 use Rattle.cedar_shadowing.specs.Picking.{least_shadowing_action}
 use Rattle.cedar_shadowing.specs.Shadowing.{ActionShadows, IsLeastPair, NoPair, ShadowPasses, ShadowRefuses, ShadowsType, shadow_phases}
+use Rattle.cedar_shadowing.proofs.KeptPairs.{keeps_actions, keeps_pair}
 use Rattle.cedar_shadowing.proofs.LookedUp.{no_pair, some_pair}
 
 module _ (own : Names) where
@@ -30,4 +31,4 @@ module _ (own : Names) where
   pub action_fails : (u : Uid) → Some u ≡ least_shadowing_action own.actions None own.actions → AllPass (ShadowPasses own) shadow_phases → ⊥
   action_fails u is all = some_pair own u is all.1.0
 
-pub ruleset phases = (refused_type, refused_action, none_refused, type_fails, action_fails)
+pub ruleset phases = (refused_type, refused_action, none_refused, type_fails, action_fails, keeps_pair, keeps_actions)

@@ -1,11 +1,13 @@
 // SPDX-License-Identifier: Apache-2.0
 //! The least action that shadows another. It is found in one pass, and without memory.
-ghost use Rattle.std.specs.Prelude.{◌≡◌, [], ◌∷◌, None, Some, unwrap_or, IfOk};
+ghost use Rattle.std.specs.Prelude.{◌≡◌, [], ◌∷◌, None, Some, unwrap_or, IfOk, IfSome};
 ghost use Rattle.std.specs.Option.{option_copied, option_map};
 ghost use Rattle.std.specs.Ordering.{is_lt};
 ghost use Rattle.cedar_schema_error.specs.FullNames.{is_qualified, uid_in};
+ghost use Rattle.cedar_schema_error.specs.KeptDeclarations.{KeepsAmong};
 ghost use Rattle.cedar_schema_error.specs.Told.{told};
 ghost use Rattle.cedar_declared.specs.Held.{names_of};
+ghost use Rattle.cedar_declared.specs.HeldPlaces.{IsHeldAction, actions_at, types_at};
 ghost use Rattle.cedar_shadowing.specs.Picking.{least_shadowing_action, shadowed_action, shadowing_action_cmp, shadows_action};
 ghost use Rattle.cedar_shadowing.specs.Shadowing.{ActionShadows, ShadowRefuses};
 
@@ -71,9 +73,12 @@ fn earlier<'a>(
     best: Option<&'a EntityUID>,
     action: &'a EntityUID,
 ) -> Option<&'a EntityUID>
-    ensures { option_map uid_in (option_copied result)
+    ensures least { option_map uid_in (option_copied result)
         ≡ least_shadowing_action (names_of all_defs.now).actions
         (option_map uid_in (option_copied best.entry)) (uid_in action.now ∷ []) }
+    ensures held { IfSome (option_copied best.entry) (IsHeldAction all_defs.now)
+        → IsHeldAction all_defs.now action.now
+        → IfSome (option_copied result) (IsHeldAction all_defs.now) }
 {
     if !shadows(all_defs, action) {
         return best;
@@ -91,10 +96,12 @@ fn earlier<'a>(
 }
 
 /// The least action that shadows another, if there is one.
+#[tactic(auto, using(crate::proofs::KeptPairs::picks_actions))]
 pub(crate) fn least_action(all_defs: &AllDefs) -> Option<&EntityUID>
-    ensures { option_map uid_in (option_copied result)
+    ensures least { option_map uid_in (option_copied result)
         ≡ least_shadowing_action (names_of all_defs.now).actions None
         (names_of all_defs.now).actions }
+    ensures held { IfSome (option_copied result) (IsHeldAction all_defs.now) }
 {
     let mut least = None;
     for action in all_defs.actions() {
@@ -113,7 +120,10 @@ pub(crate) fn action_shadowing(
     requires { least_shadowing_action (names_of all_defs.now).actions None
         (names_of all_defs.now).actions
         ≡ Some (uid_in shadowing.now) }
-    ensures { IfOk result (λ e. ShadowRefuses (names_of all_defs.now) ActionShadows (told e)) }
+    ensures told { IfOk result (λ e. ShadowRefuses (names_of all_defs.now) ActionShadows
+        (told e)) }
+    ensures kept { IsHeldAction all_defs.now shadowing.now
+        → IfOk result (KeepsAmong (types_at all_defs.now) (actions_at all_defs.now)) }
 {
     match all_defs.action_alone(shadowing.eid()) {
         None => unreachable!(),

@@ -1,16 +1,21 @@
 // SPDX-License-Identifier: Apache-2.0
 //! The least type that shadows another. It is found in one pass, and without memory.
-ghost use Rattle.std.specs.Prelude.{◌≡◌, [], ◌∷◌, ◌++◌, None, map, IfOk, MatchOption};
+ghost use Rattle.std.specs.Prelude.{◌≡◌, [], ◌∷◌, ◌++◌, None, map, IfOk, IfSome, IsTrue, MatchOption};
 ghost use Rattle.std.specs.Option.{option_copied, option_map};
 ghost use Rattle.std.specs.Ordering.{is_lt};
+ghost use Rattle.cedar_data.specs.Firsts.{AllPass};
 ghost use Rattle.cedar_names.specs.Components.{basename_of, components, loc_of};
 ghost use Rattle.cedar_names.specs.Order.{words_cmp};
 ghost use Rattle.cedar_schema_error.specs.ErrorPlaces.{places_of};
 ghost use Rattle.cedar_schema_error.specs.FullNames.{basename};
+ghost use Rattle.cedar_schema_error.specs.KeptDeclarations.{KeepsAmong};
+ghost use Rattle.cedar_written.specs.declared.reference_type.ReferenceType.TheVariants.{CommonOrEntity};
 ghost use Rattle.cedar_places.specs.Places.{range};
 ghost use Rattle.cedar_schema_error.specs.Refusals.{TypeShadowing};
 ghost use Rattle.cedar_schema_error.specs.Told.{told};
 ghost use Rattle.cedar_declared.specs.Held.{names_of};
+ghost use Rattle.cedar_declared.specs.HeldPlaces.{IsHeldType, actions_at, types_at};
+ghost use Rattle.cedar_declared.specs.Names.{is_declared};
 ghost use Rattle.cedar_declared.specs.TypeNames.{place_alone};
 ghost use Rattle.cedar_shadowing.specs.Shadowing.{IsLeastPair, NoPair, ShadowsType};
 ghost use Rattle.cedar_shadowing.specs.Picking.{least_shadowing, shadowing_cmp, shadows_type};
@@ -62,9 +67,12 @@ fn earlier<'a>(
     best: Option<&'a InternalName>,
     name: &'a InternalName,
 ) -> Option<&'a InternalName>
-    ensures { option_map components (option_copied result)
+    ensures least { option_map components (option_copied result)
         ≡ least_shadowing (names_of all_defs.now) (option_map components (option_copied best.entry))
         (components name.now ∷ []) }
+    ensures held { IfSome (option_copied best.entry) (IsHeldType all_defs.now)
+        → IsHeldType all_defs.now name.now
+        → IfSome (option_copied result) (IsHeldType all_defs.now) }
 {
     if !shadows(all_defs, name) {
         return best;
@@ -82,14 +90,18 @@ fn earlier<'a>(
 }
 
 /// The least of the names that shadow a declared type, and of the best before.
+#[tactic(auto, using(crate::proofs::KeptPairs::picks_types))]
 fn least_among<'a>(
     all_defs: &AllDefs,
     names: SetIter<'a, InternalName>,
     best: Option<&'a InternalName>,
 ) -> Option<&'a InternalName>
-    ensures { option_map components (option_copied result)
+    ensures least { option_map components (option_copied result)
         ≡ least_shadowing (names_of all_defs.now) (option_map components (option_copied best.entry))
         (map components names.entry) }
+    ensures held { IfSome (option_copied best.entry) (IsHeldType all_defs.now)
+        → AllPass (IsHeldType all_defs.now) names.entry
+        → IfSome (option_copied result) (IsHeldType all_defs.now) }
 {
     let mut least = best;
     for name in names {
@@ -101,10 +113,11 @@ fn least_among<'a>(
 /// The least type that shadows another, if there is one.
 #[tactic(auto, using(crate::proofs::Shadowers::shadowers))]
 fn least_name(all_defs: &AllDefs) -> Option<&InternalName>
-    ensures { option_map components (option_copied result)
+    ensures least { option_map components (option_copied result)
         ≡ least_shadowing (names_of all_defs.now)
         (least_shadowing (names_of all_defs.now) None (names_of all_defs.now).entity_types)
         (names_of all_defs.now).common_types }
+    ensures held { IfSome (option_copied result) (IsHeldType all_defs.now) }
 {
     let least = least_among(all_defs, all_defs.qualified_entity_types(), None);
     least_among(all_defs, all_defs.qualified_common_types(), least)
@@ -113,9 +126,11 @@ fn least_name(all_defs: &AllDefs) -> Option<&InternalName>
 /// The type that shadows another in the least pair, if there is one.
 #[tactic(auto, using(crate::proofs::LeastTypes::least_pair))]
 pub(crate) fn least_type(all_defs: &AllDefs) -> Option<&InternalName>
-    ensures { MatchOption (option_copied result) (NoPair (ShadowsType (names_of all_defs.now)))
+    ensures least { MatchOption (option_copied result)
+        (NoPair (ShadowsType (names_of all_defs.now)))
         (λ n. IsLeastPair words_cmp (ShadowsType (names_of all_defs.now)) (basename (components n)
         ∷ []) (components n)) }
+    ensures held { IfSome (option_copied result) (IsHeldType all_defs.now) }
 {
     least_name(all_defs)
 }
@@ -131,6 +146,10 @@ pub(crate) fn type_shadowing(
     ensures places { IfOk result (λ e. places_of e
         ≡ range (place_alone all_defs.now (basename_of shadowing.now))
         ++ range (loc_of shadowing.now)) }
+    ensures kept { IsTrue (is_declared (names_of all_defs.now) CommonOrEntity
+        (basename (components shadowing.now) ∷ []))
+        → IsHeldType all_defs.now shadowing.now
+        → IfOk result (KeepsAmong (types_at all_defs.now) (actions_at all_defs.now)) }
 {
     let shadowed_def = all_defs.name_alone(alloc, shadowing.basename())?;
     let shadowing_def = shadowing.dup(alloc)?;

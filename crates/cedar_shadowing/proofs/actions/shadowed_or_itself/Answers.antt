@@ -5,4 +5,4 @@ use Rattle.cedar_shadowing.proofs.actions.shadowed_or_itself.Goals as goal
 
 pub returns-in-Some : goal.returns-in-Some
 returns-in-Some c =
-    shadowed_found (names_of c.args.all_defs.now).actions c.args.action.now _ c.in-Some.shadowed.now c.eid.ensures c.in-Some.ensures
+    shadowed_found (names_of c.args.all_defs.now).actions c.args.action.now _ c.in-Some.shadowed.now c.eid.ensures c.in-Some.ensures.least
