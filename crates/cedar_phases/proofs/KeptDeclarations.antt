@@ -1,7 +1,7 @@
 -- SPDX-License-Identifier: Apache-2.0
 -- From what is declared to the types and actions that a refusal keeps.
-use Rattle.std.proofs.Common.{◌≡◌, ◌⊎◌, ◌++◌, Bool, true, false, List, [], ◌∷◌, Option, Some, None, Result, Ok, Err, IfOk, map, fold, inl, inr, refl, sym, ap, ◌∙◌, subst}
-use Rattle.std.proofs.lemmas.List.{append_cancel_left, map-append}
+use Rattle.std.proofs.Common.{◌≡◌, ◌⊎◌, ◌++◌, Bool, false, List, [], ◌∷◌, Option, Some, None, Result, Ok, Err, IfOk, map, fold, inl, inr, refl, sym, ap, ◌∙◌, subst}
+use Rattle.std.proofs.lemmas.List.{append-nil, append_cancel_left, map-append}
 use Rattle.std.specs.BTreeMap.{insert_entry}
 use Rattle.std.specs.List.{flat_map}
 use Rattle.std.specs.Map.{keys_of}
@@ -12,7 +12,9 @@ use Rattle.cedar_data.proofs.Passing.{AllPass-map}
 use Rattle.cedar_data.specs.Firsts.{AllPass}
 use Rattle.cedar_data.specs.Maps.{map_of, map_values}
 use Rattle.cedar_declared.specs.Gathering.{action_cmp}
+use Rattle.cedar_declared.proofs.Among.{among_either, among_left, among_map, among_right, each_seen}
 use Rattle.cedar_declared.specs.Held.{names_of}
+use Rattle.cedar_declared.specs.HeldPlaces.{HeldAmong, actions_at, types_at}
 use Rattle.cedar_declared.specs.declared.all_defs.AllDefs.{AllDefs}
 use Rattle.cedar_declared.specs.of_definitions.DeclaredNames.{actions_of, all_actions, all_types, types_of}
 use Rattle.cedar_declared.specs.of_definitions.Structures.{definitions_of}
@@ -22,10 +24,9 @@ use Rattle.cedar_names.specs.Names.{internal_cmp, internal_of, name_of}
 use Rattle.cedar_names.specs.declared.extensions.Extensions.{Extensions}
 use Rattle.cedar_names.specs.declared.internal_name.InternalName.{InternalName}
 use Rattle.cedar_phases.proofs.KeptReferences.{Missed}
-use Rattle.cedar_phases.proofs.OtherRefusals.{of_refused}
-use Rattle.cedar_phases.proofs.Placing.{gathered, seen_twice}
+use Rattle.cedar_phases.proofs.Placing.{gathered, holds_among, seen_twice}
 use Rattle.cedar_phases.specs.Holding.{Definition, Definitions, Holds, world_of}
-use Rattle.cedar_phases.specs.Kept.{KeepsDeclarations, KeepsDeclared, is_repeated}
+use Rattle.cedar_phases.specs.Kept.{KeepsDeclarations, KeepsDeclared, tells_declared}
 use Rattle.cedar_qualified.specs.of_missing.Undeclared.{Parent, missing_in_definition, missing_in_each, refusal_by}
 use Rattle.cedar_qualified.specs.of_world.DefinitionViews.{namespace_in}
 use Rattle.cedar_qualified.specs.of_world.Definitions.{Namespace}
@@ -37,8 +38,6 @@ use Rattle.cedar_schema_error.specs.Refusals as refusal
 use Rattle.cedar_schema_error.specs.Told.{told}
 use Rattle.cedar_schema_error.specs.declared.schema_error.SchemaError.{SchemaError}
 use Rattle.cedar_schema_error.specs.declared.schema_error.SchemaError.TheVariants as error
-use Rattle.cedar_sound.specs.Sound.{RefusesAt, Shadowing}
-use Rattle.cedar_sound.specs.of_shadowing.Shadowing.{ActionShadows, ShadowPasses, ShadowPhase, ShadowRefuses, TypeShadows, shadow_phases}
 use Rattle.cedar_tables.specs.Declarations as tables
 use Rattle.cedar_text.specs.declared.location.Loc.{Loc}
 use Rattle.cedar_undeclared.specs.Undeclared.{undeclared_refusal}
@@ -47,41 +46,12 @@ use Rattle.cedar_written.specs.declared.conditional_name.ConditionalName.{Condit
 
 -- ---- lists
 
-module _ {A : Type 0} where
-  pub among_left : (xs ys : List A) (x : A) → IsAmong xs x → IsAmong (xs ++ ys) x
-  among_left [] ys x among = absurd among
-  among_left (y ∷ xs) ys x (inl here) = inl here
-  among_left (y ∷ xs) ys x (inr there) = inr (among_left xs ys x there)
-
-  pub among_right : (xs ys : List A) (x : A) → IsAmong ys x → IsAmong (xs ++ ys) x
-  among_right [] ys x among = among
-  among_right (y ∷ xs) ys x among = inr (among_right xs ys x among)
-
-  pub among_either : (xs ys : List A) (x : A) → IsAmong (xs ++ ys) x → IsAmong xs x ⊎ IsAmong ys x
-  among_either [] ys x among = inr among
-  among_either (y ∷ xs) ys x (inl here) = inl (inl here)
-  among_either (y ∷ xs) ys x (inr there) = further (among_either xs ys x there)
-    where
-      further : IsAmong xs x ⊎ IsAmong ys x → IsAmong (y ∷ xs) x ⊎ IsAmong ys x
-      further (inl first) = inl (inr first)
-      further (inr second) = inr second
-
 module _ {A B : Type 0} where
-  seen_one : (f : A → B) (ys : List A) (x : A) → IsAmong ys x → IsAmong (map f ys) (f x)
-  seen_one f [] x among = absurd among
-  seen_one f (y ∷ ys) x (inl here) = inl (ap f here)
-  seen_one f (y ∷ ys) x (inr there) = inr (seen_one f ys x there)
-
   -- items that are among others are so when they are seen through a function
   among_seen : (f : A → B) (xs ys : List A) → ((x : A) → IsAmong xs x → IsAmong ys x) → (z : B) → IsAmong (map f xs) z → IsAmong (map f ys) z
   among_seen f [] ys each z among = absurd among
-  among_seen f (x ∷ xs) ys each z (inl here) = subst (IsAmong (map f ys)) here (seen_one f ys x (each x (inl refl)))
+  among_seen f (x ∷ xs) ys each z (inl here) = subst (IsAmong (map f ys)) here (among_map f ys x (each x (inl refl)))
   among_seen f (x ∷ xs) ys each z (inr there) = among_seen f xs ys (λ y among. each y (inr among)) z there
-
-  -- each item, seen so, is one of all
-  all_seen : (f : A → B) (xs : List A) → AllPass (λ x. IsAmong (map f xs) (f x)) xs
-  all_seen f [] = tt
-  all_seen f (x ∷ xs) = (inl refl, AllPass-map (λ y among. inr among) xs (all_seen f xs))
 
   -- what is gathered of some is among what is gathered of more
   among_gathered : (g h : A → List B) → ((a : A) (x : B) → IsAmong (g a) x → IsAmong (h a) x) → (xs : List A) (x : B) → IsAmong (flat_map g xs) x → IsAmong (flat_map h xs) x
@@ -155,17 +125,6 @@ keeps_more ts us as' bs types_there actions_there e k = record {
   actions = AllPass-map (λ uid among. actions_there (placed_action uid) among) (kept_actions e) k.actions;
 }
 
--- whether a refusal tells names that are declared
-abbrev tells_declared : Refusal → Bool
-tells_declared (refusal.TypeShadowing a b) = true
-tells_declared (refusal.ActionShadowing a b) = true
-tells_declared (refusal.DuplicateCommonType name) = true
-tells_declared (refusal.DuplicateEntityType name) = true
-tells_declared (refusal.DuplicateAction uid) = true
-tells_declared (refusal.CycleInCommonTypeReferences name) = true
-tells_declared (refusal.CycleInActionHierarchy uid) = true
-tells_declared r = false
-
 -- an error that tells something else keeps no declaration
 pub keeps_none : (types : List (FullName × Option Loc)) (acts : List (Uid × Option Loc)) (e : SchemaError) → tells_declared (told e) ≡ false → KeepsAmong types acts e
 keeps_none types acts (error.TypeShadowing e) is = absurd (cc)
@@ -238,15 +197,18 @@ module _ (ds : List Definition) where
       (among_seen placed (keys_of t.common_types) (all_types ds) (λ x among. commons_among x (keys_among internal_cmp (tables.common_types_of ds) x (subst (λ es. IsAmong (keys_of es) x) commons_are among))))
       (among_seen placed_action (keys_of t.actions) (all_actions ds) (λ x among. subst (λ ks. IsAmong ks x) action_keys (keys_among action_cmp (flat_map tables.action_places ds) x (subst (λ ks. IsAmong ks x) acts among)))) e k
 
+  -- so are the names that are held, where these are declared
+  pub held_keeps : (all_defs : AllDefs) → HeldAmong (map placed (all_types ds)) (map placed_action (all_actions ds)) all_defs → (e : SchemaError) → KeepsAmong (types_at all_defs) (actions_at all_defs) e → KeepsDeclared ds e
+  held_keeps all_defs held e k =
+      keeps_more (types_at all_defs) (map placed (all_types ds)) (actions_at all_defs) (map placed_action (all_actions ds))
+      (holds_among (IsAmong (map placed (all_types ds))) (types_at all_defs) held.types_are)
+      (holds_among (IsAmong (map placed_action (all_actions ds))) (actions_at all_defs) held.actions_are) e k
+
 -- ---- worlds
 
--- what is refused for a name that shadows another is refused neither for what is declared twice nor for a cycle
-shadow_unrepeated : (W : World) (p : ShadowPhase) (e : Refusal) → ShadowRefuses (own W) p e → is_repeated e ≡ false
-shadow_unrepeated W TypeShadows e r = ap is_repeated r.2
-shadow_unrepeated W ActionShadows e r = ap is_repeated r.2
-
-pub shadowing_unrepeated : (W : World) (e : Refusal) → RefusesAt W Shadowing e → is_repeated e ≡ false
-shadowing_unrepeated W e r = of_refused (ShadowPasses (own W)) (ShadowRefuses (own W)) (λ e. is_repeated e ≡ false) (shadow_unrepeated W) shadow_phases e r
+-- definitions alone
+pub keeps_own : (W : World) (ds : List Definition) (e : SchemaError) → KeepsDeclared ds e → KeepsDeclarations W ds e
+keeps_own W ds e k = record { builtins = []; are_builtin = tt; kept = subst (λ all. KeepsDeclared all e) (sym (append-nil ds)) k }
 
 module _ (fragments : List Definitions) (X : Extensions) where
   abbrev ds : List Definition
@@ -260,7 +222,7 @@ module _ (fragments : List Definitions) (X : Extensions) where
       → (builtins : List Definition) × (definitions_of whole ≡ ds ++ builtins) → KeepsDeclared (definitions_of whole) e → KeepsDeclarations (world_of fragments X) ds e
   keeps_all all_defs whole e h behind k = record {
     builtins = behind.0;
-    are_builtin = subst (λ ns. AllPass (λ d. IsAmong ns (namespace_in d)) behind.0) rest (all_seen namespace_in behind.0);
+    are_builtin = subst (λ ns. AllPass (λ d. IsAmong ns (namespace_in d)) behind.0) rest (each_seen namespace_in behind.0);
     kept = subst (λ all. KeepsDeclared all e) behind.1 k;
   }
     where

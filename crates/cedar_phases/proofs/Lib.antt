@@ -1,4 +1,5 @@
 -- SPDX-License-Identifier: Apache-2.0
+pub mod of_declared
 pub mod of_sound
 pub use Rattle.cedar_sound.proofs.Refusing
 pub use Rattle.cedar_sound.proofs.OneSchema

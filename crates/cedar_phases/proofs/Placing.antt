@@ -97,7 +97,7 @@ gathered f view g each [] = refl
 gathered f view g each (x ∷ xs) = map-append view (f x) (flat_map f xs) ∙ (λ i. each x i ++ gathered f view g each xs i)
 
 -- what holds of each item holds of one of them
-holds_among : {A : Type 0} (P : A → Type 0) (xs : List A) → AllPass P xs → (x : A) → IsAmong xs x → P x
+pub holds_among : {A : Type 0} (P : A → Type 0) (xs : List A) → AllPass P xs → (x : A) → IsAmong xs x → P x
 holds_among P [] all x among = absurd among
 holds_among P (y ∷ xs) all x (inl here) = subst P here all.0
 holds_among P (y ∷ xs) all x (inr there) = holds_among P xs all.1 x there

@@ -10,7 +10,7 @@ use Rattle.cedar_qualified.specs.of_world.DefinitionViews.{namespace_in}
 use Rattle.cedar_qualified.specs.of_world.Worlds.{World, all_namespaces, builtin_namespaces, names, own}
 use Rattle.cedar_declared.specs.Names.{Names}
 use Rattle.cedar_schema_error.specs.KeptDeclarations.{IsAmong, KeepsAmong, placed, placed_action}
-use Rattle.cedar_schema_error.specs.Refusals.{ActionNotDefined, CycleInActionHierarchy, CycleInCommonTypeReferences, DuplicateAction, DuplicateCommonType, DuplicateEntityType, Refusal, TypeNotDefined}
+use Rattle.cedar_schema_error.specs.Refusals.{ActionNotDefined, ActionShadowing, CycleInActionHierarchy, CycleInCommonTypeReferences, DuplicateAction, DuplicateCommonType, DuplicateEntityType, Refusal, TypeNotDefined, TypeShadowing}
 use Rattle.cedar_schema_error.specs.declared.schema_error.SchemaError.{SchemaError}
 
 -- whether a refusal is for references that mean nothing declared
@@ -19,14 +19,16 @@ is_missing (TypeNotDefined r rs) = true
 is_missing (ActionNotDefined r rs) = true
 is_missing e = false
 
--- whether a refusal is for what is declared twice, or stands on a cycle
-abbrev pub is_repeated : Refusal → Bool
-is_repeated (DuplicateCommonType name) = true
-is_repeated (DuplicateEntityType name) = true
-is_repeated (DuplicateAction uid) = true
-is_repeated (CycleInCommonTypeReferences name) = true
-is_repeated (CycleInActionHierarchy uid) = true
-is_repeated e = false
+-- whether a refusal tells types or actions as they are declared: those that shadow one another, are declared twice, or stand on a cycle
+abbrev pub tells_declared : Refusal → Bool
+tells_declared (TypeShadowing a b) = true
+tells_declared (ActionShadowing a b) = true
+tells_declared (DuplicateCommonType name) = true
+tells_declared (DuplicateEntityType name) = true
+tells_declared (DuplicateAction uid) = true
+tells_declared (CycleInCommonTypeReferences name) = true
+tells_declared (CycleInActionHierarchy uid) = true
+tells_declared e = false
 
 -- an error is the one for what definitions of a world miss, those of the builtin types behind them: it keeps the very references, places and all
 pub record KeepsReferences (W : World) (ds : List Definition) (e : SchemaError) : Type 0 where

@@ -1,13 +1,17 @@
 // SPDX-License-Identifier: Apache-2.0
-ghost use Rattle.std.specs.Prelude.{◌≡◌, ◌++◌, IfOk, List};
+ghost use Rattle.std.specs.Prelude.{◌≡◌, ◌++◌, IfOk, List, map};
 ghost use Rattle.std.specs.List.{flat_map};
 ghost use Rattle.cedar_data.specs.Answers.{IfRefused};
 ghost use Rattle.cedar_declared.specs.Gathering.{declared_names};
 ghost use Rattle.cedar_declared.specs.Held.{names_of};
+ghost use Rattle.cedar_declared.specs.HeldPlaces.{HeldAmong};
 ghost use Rattle.cedar_declared.specs.Names.{SameNames};
+ghost use Rattle.cedar_declared.specs.of_definitions.DeclaredNames.{all_actions, all_types};
 ghost use Rattle.cedar_declared.specs.of_definitions.Structures.{definitions_of};
 ghost use Rattle.cedar_phases.specs.Holding.{Definition, Holds, world_of};
+ghost use Rattle.cedar_phases.specs.Kept.{KeepsDeclared};
 ghost use Rattle.cedar_phases.specs.Places.{places_in};
+ghost use Rattle.cedar_schema_error.specs.KeptDeclarations.{placed, placed_action};
 ghost use Rattle.cedar_schema_error.specs.Told.{told};
 ghost use Rattle.cedar_sound.specs.Sound.{Passes, RefusesAt, Shadowing};
 
@@ -90,8 +94,10 @@ fn declare_with(
     fragments: Vec<Definitions>,
     extensions: &Extensions,
 ) -> Out<Declarations, SchemaError>
-    requires { SameNames (names_of own)
+    requires names { SameNames (names_of own)
         (declared_names (flat_map definitions_of fragments.items)) }
+    requires held { HeldAmong (map placed (all_types (flat_map definitions_of fragments.items)))
+        (map placed_action (all_actions (flat_map definitions_of fragments.items))) own }
     ensures passes { IfOk result
         (λ _. Passes (world_of fragments.items extensions.now) Shadowing) }
     ensures holds { IfOk result
@@ -103,6 +109,8 @@ fn declare_with(
         ≡ flat_map definitions_of fragments.items ++ builtins)) }
     ensures refused { IfRefused result
         (λ e. RefusesAt (world_of fragments.items extensions.now) Shadowing (told e)) }
+    ensures as_declared { IfRefused result
+        (KeepsDeclared (flat_map definitions_of fragments.items)) }
 {
     match own.rfc_70_shadowing_checks(alloc) {
         Ok(()) => {
@@ -131,6 +139,8 @@ pub(crate) fn declare(
         ≡ flat_map definitions_of fragments.items ++ builtins)) }
     ensures refused { IfRefused result
         (λ e. RefusesAt (world_of fragments.items extensions.now) Shadowing (told e)) }
+    ensures as_declared { IfRefused result
+        (KeepsDeclared (flat_map definitions_of fragments.items)) }
 {
     let own = AllDefs::new(alloc, fragments.as_slice())?;
     declare_with(alloc, own, fragments, extensions)

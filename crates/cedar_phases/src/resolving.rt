@@ -6,7 +6,7 @@ ghost use Rattle.cedar_data.specs.Answers.{IfRefused};
 ghost use Rattle.cedar_declared.specs.Held.{names_of};
 ghost use Rattle.cedar_declared.specs.of_definitions.Structures.{definitions_of};
 ghost use Rattle.cedar_phases.specs.Holding.{AllPassed, AreTables, Definition, Holds, OneRefuses, early_phases, later_phases, world_of};
-ghost use Rattle.cedar_phases.specs.Kept.{KeepsDeclarations, KeepsDeclared, KeepsReferences, is_missing, is_repeated};
+ghost use Rattle.cedar_phases.specs.Kept.{KeepsDeclarations, KeepsDeclared, KeepsReferences, is_missing};
 ghost use Rattle.cedar_phases.specs.Places.{IsPlaced, places_in, places_outlined};
 ghost use Rattle.cedar_checks.specs.SchemaViews.{IsConsistent, schema_in};
 ghost use Rattle.cedar_schema_error.specs.KeptDeclarations.{KeepsAmong, placed, placed_action};
@@ -164,10 +164,10 @@ impl FromSchemaFragments for ValidatorSchema {
         ensures kept { IfRefused result (λ e. is_missing (told e) ≡ true
             → KeepsReferences (world_of fragments.items extensions.now)
             (flat_map definitions_of fragments.items) e) }
-        // What is declared twice or stands on a cycle is kept as it is declared, places and all.
-        ensures as_declared { IfRefused result (λ e. is_repeated (told e) ≡ true
-            → KeepsDeclarations (world_of fragments.items extensions.now)
-            (flat_map definitions_of fragments.items) e) }
+        // Types and actions that an error keeps are kept as they are declared, places and all.
+        ensures as_declared { IfRefused result
+            (KeepsDeclarations (world_of fragments.items extensions.now)
+            (flat_map definitions_of fragments.items)) }
     {
         match declare(alloc, fragments, extensions) {
             Ok(declarations) => resolve_declarations(alloc, declarations, extensions),

@@ -1,5 +1,5 @@
 -- SPDX-License-Identifier: Apache-2.0
--- No fault of a fragment is for references that mean nothing, for what is declared twice, or for a cycle.
+-- No fault of a fragment is for references that mean nothing, and none tells what is declared.
 use Rattle.std.proofs.Common.{◌≡◌, ℕ, Bool, true, false, List, [], ◌∷◌, codes, Option, Some, None, refl, subst, if◌then◌else◌}
 use Rattle.std.specs.List.{filter, flat_map}
 use Rattle.std.specs.Str.{bytes_eq}
@@ -10,7 +10,7 @@ use Rattle.cedar_fragment_world.specs.of_convert_fragment.Fragments.{ActionConte
 use Rattle.cedar_fragment_world.specs.FragmentFaults.{action_faults, action_types, declaration_faults, definition_faults, each_fault, entity_faults, fragment_faults, is_reserved, reserved_in, with_attributes}
 use Rattle.cedar_fragment_world.specs.FragmentWorlds.{action_type, action_uid, full_name}
 use Rattle.cedar_namespace_definitions.specs.Faults.{attribute_faults, prohibited, refusal_of, value_refusal}
-use Rattle.cedar_phases.specs.Kept.{is_missing, is_repeated}
+use Rattle.cedar_phases.specs.Kept.{is_missing, tells_declared}
 use Rattle.cedar_phases.proofs.OtherRefusals.{true-false}
 use Rattle.cedar_phases.proofs.of_sound.NothingMissed.{pass_append, pass_flat, pass_map}
 use Rattle.cedar_schema_error.specs.FullNames.{FullName, Uid}
@@ -24,7 +24,7 @@ use Rattle.cedar_types.specs.declared.value.ValueMap.{ValueMap}
 
 -- a refusal for something else than what is kept as it stands
 abbrev IsOther : Refusal → Type 0
-IsOther e = (is_missing e ≡ false) × (is_repeated e ≡ false)
+IsOther e = (is_missing e ≡ false) × (tells_declared e ≡ false)
 
 each_passes : {A : Type 0} (P : A → Type 0) → ((x : A) → P x) → (xs : List A) → AllPass P xs
 each_passes P each [] = tt
@@ -85,6 +85,6 @@ module _ (behavior : ActionBehavior) (F : Fragment) (e : Refusal) (first : IsFir
   pub fragment_other : is_missing e ≡ true → ⊥
   fragment_other is = true-false _ is fault_other.0
 
-  -- nor for what is declared twice or on a cycle
-  pub fragment_unrepeated : is_repeated e ≡ true → ⊥
-  fragment_unrepeated is = true-false _ is fault_other.1
+  -- and tells nothing that is declared
+  pub fragment_tells_none : tells_declared e ≡ true → ⊥
+  fragment_tells_none is = true-false _ is fault_other.1

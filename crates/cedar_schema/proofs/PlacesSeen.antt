@@ -31,7 +31,7 @@ use Rattle.cedar_names.specs.declared.internal_name.InternalName.{InternalName}
 use Rattle.cedar_names.specs.declared.name.EntityType.{EntityType}
 use Rattle.cedar_names.specs.declared.name.Name.{Name}
 use Rattle.cedar_phases.proofs.of_sound.NameOrders.{names_exact}
-use Rattle.cedar_phases.proofs.KeptDeclarations.{among_either, among_left, among_right}
+use Rattle.cedar_phases.proofs.of_declared.Among.{among_either, among_left, among_right}
 use Rattle.cedar_phases.proofs.Placing.{placed_among, seen_twice}
 use Rattle.cedar_phases.specs.Holding.{Definition}
 use Rattle.cedar_phases.specs.Places as phases

@@ -7,7 +7,7 @@ use Rattle.cedar_fragment_world.specs.FragmentWorlds.{world_of_fragment}
 use Rattle.cedar_fragment_world.specs.of_convert_fragment.Views.{fragment_seen}
 use Rattle.cedar_fragment_world.specs.of_namespace_definitions.Definitions.{AreDefinitionsOf}
 use Rattle.cedar_phases.specs.Holding.{Definition}
-use Rattle.cedar_phases.specs.Kept.{KeepsDeclarations, KeepsReferences, is_missing, is_repeated}
+use Rattle.cedar_phases.specs.Kept.{KeepsDeclarations, KeepsReferences, is_missing, tells_declared}
 use Rattle.cedar_schema_error.specs.Told.{told}
 use Rattle.cedar_schema_error.specs.declared.schema_error.SchemaError.{SchemaError}
 use Rattle.cedar_schema_errors.specs.of_convert_text.Texts.{DeclaresText}
@@ -30,8 +30,8 @@ KeepsReferencesOfText text extensions error =
 abbrev pub KeepsDeclarationsOf : List (List ℕ) → held.Fragment RawName over_raw → SchemaError → Type 0
 KeepsDeclarationsOf extensions fragment e = (ds : List Definition) × AreDefinitionsOf fragment.0 ds × KeepsDeclarations (world_of_fragment (fragment_seen fragment) extensions) ds e
 
--- an error for what is declared twice or on a cycle keeps it as the fragment declares it that a text declares
+-- an error that tells what is declared keeps it as the fragment declares it that a text declares
 abbrev pub KeepsDeclarationsOfText : List ℕ → List (List ℕ) → CedarSchemaError → Type 0
 KeepsDeclarationsOfText text extensions error =
-    (e : SchemaError) → error ≡ Schema e → is_repeated (told e) ≡ true
+    (e : SchemaError) → error ≡ Schema e → tells_declared (told e) ≡ true
     → (fragment : held.Fragment RawName over_raw) × (warned : List SchemaWarning) × DeclaresText text extensions (fragment_seen fragment) warned × KeepsDeclarationsOf extensions fragment e

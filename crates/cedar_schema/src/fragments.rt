@@ -13,7 +13,7 @@ ghost use Rattle.cedar_phases.specs.Holding.{world_of};
 ghost use Rattle.cedar_phases.specs.Places.{IsPlaced};
 ghost use Rattle.cedar_phases.specs.SchemaViews.{IsConsistent, schema_in};
 ghost use Rattle.cedar_schema.specs.DeclaredPlaces.{places_of};
-ghost use Rattle.cedar_phases.specs.Kept.{is_missing, is_repeated};
+ghost use Rattle.cedar_phases.specs.Kept.{is_missing, tells_declared};
 ghost use Rattle.cedar_schema.specs.Kept.{KeepsDeclarationsOf, KeepsReferencesOf};
 ghost use Rattle.cedar_schema.specs.Fragments.{FragmentCause, SoundFragment, all_extensions, unnamed};
 ghost use Rattle.cedar_schema_error.specs.Told.{told};
@@ -122,8 +122,8 @@ impl FromFragment for ValidatorSchema {
         // Of references that mean nothing, those of the fragment are kept, places and all.
         ensures kept { IfRefused result (λ e. is_missing (told e) ≡ true
             → KeepsReferencesOf all_extensions fragment e) }
-        // What is declared twice or stands on a cycle is kept as the fragment declares it, places and all.
-        ensures as_declared { IfRefused result (λ e. is_repeated (told e) ≡ true
+        // Names that shadow, are declared twice or stand on a cycle are kept as the fragment declares them, places and all.
+        ensures as_declared { IfRefused result (λ e. tells_declared (told e) ≡ true
             → KeepsDeclarationsOf all_extensions fragment e) }
     {
         let extensions = Extensions::all_available(alloc)?;
@@ -146,7 +146,7 @@ impl FromFragment for ValidatorSchema {
             (extension_words extensions.now) (fragment_seen fragment) (told e)) }
         ensures kept { IfRefused result (λ e. is_missing (told e) ≡ true
             → KeepsReferencesOf (extension_words extensions.now) fragment e) }
-        ensures as_declared { IfRefused result (λ e. is_repeated (told e) ≡ true
+        ensures as_declared { IfRefused result (λ e. tells_declared (told e) ≡ true
             → KeepsDeclarationsOf (extension_words extensions.now) fragment e) }
     {
         match define_alone(alloc, fragment, extensions) {

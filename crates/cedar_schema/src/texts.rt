@@ -14,7 +14,7 @@ ghost use Rattle.cedar_schema.specs.Fragments.{SoundFragment, all_extensions};
 ghost use Rattle.cedar_schema.specs.Kept.{KeepsDeclarationsOf, KeepsDeclarationsOfText, KeepsReferencesOf, KeepsReferencesOfText};
 ghost use Rattle.cedar_schema_error.specs.declared.schema_error.SchemaError.{SchemaError};
 ghost use Rattle.cedar_schema_errors.specs.declared.schema_error.CedarSchemaError.TheVariants.{Schema};
-ghost use Rattle.cedar_phases.specs.Kept.{is_missing, is_repeated};
+ghost use Rattle.cedar_phases.specs.Kept.{is_missing, tells_declared};
 ghost use Rattle.cedar_schema_error.specs.Told.{told};
 ghost use Rattle.cedar_schema.specs.Texts.{DenotesSchema, IsWellFormed, ParsingCause, SchemaCause, TextCause};
 ghost use Rattle.cedar_schema_error.specs.declared.action_behavior.ActionBehavior.TheVariants.{ProhibitAttributes};
@@ -103,7 +103,7 @@ fn with_schema(
         → is_missing (told e) ≡ true
         → KeepsReferencesOf (extension_words extensions.now) declared.0 e) }
     ensures as_declared { IfRefused result (λ error. (e : SchemaError) → error ≡ Schema e
-        → is_repeated (told e) ≡ true
+        → tells_declared (told e) ≡ true
         → KeepsDeclarationsOf (extension_words extensions.now) declared.0 e) }
 {
     let (fragment, warnings) = declared;

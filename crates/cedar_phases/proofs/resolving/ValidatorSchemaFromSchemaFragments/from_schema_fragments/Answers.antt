@@ -6,8 +6,8 @@ use Rattle.cedar_phases.specs.Holding.{AllPassed, Holds, OneRefuses, early_phase
 use Rattle.cedar_phases.specs.Places.{IsPlaced}
 use Rattle.cedar_checks.specs.SchemaViews.{schema_in}
 use Rattle.cedar_phases.proofs.Carried.{carried, passed, passed_both, refused}
-use Rattle.cedar_phases.specs.Kept.{KeepsDeclarations, KeepsDeclared, KeepsReferences, is_missing, is_repeated}
-use Rattle.cedar_phases.proofs.KeptDeclarations.{keeps_all, shadowing_unrepeated}
+use Rattle.cedar_phases.specs.Kept.{KeepsDeclarations, KeepsDeclared, KeepsReferences, is_missing}
+use Rattle.cedar_phases.proofs.KeptDeclarations.{keeps_all, keeps_own}
 use Rattle.cedar_phases.proofs.KeptReferences.{Missed, keeps_references}
 use Rattle.cedar_phases.proofs.OtherRefusals.{shadowing_other, true-false}
 use Rattle.cedar_phases.proofs.Composing.{cause_first, cause_later, sound_by}
@@ -59,12 +59,11 @@ returns-in-Err-clause-kept c =
 pub returns-in-Ok-clause-as_declared : goal.returns-in-Ok-clause-as_declared
 returns-in-Ok-clause-as_declared c =
     refused (λ e. (W : World) → Holds W c.in-Ok.declarations.all_defs (definitions_of c.in-Ok.declarations.definitions) c.args.extensions.now → KeepsDeclared (definitions_of c.in-Ok.declarations.definitions) e)
-    (λ e. is_repeated (told e) ≡ true → KeepsDeclarations (world_of c.args.fragments.items c.args.extensions.now) (flat_map definitions_of c.args.fragments.items) e)
-    (λ e f is. keeps_all c.args.fragments.items c.args.extensions.now c.in-Ok.declarations.all_defs c.in-Ok.declarations.definitions e c.in-Ok.ensures.holds c.in-Ok.ensures.behind
+    (KeepsDeclarations (world_of c.args.fragments.items c.args.extensions.now) (flat_map definitions_of c.args.fragments.items))
+    (λ e f. keeps_all c.args.fragments.items c.args.extensions.now c.in-Ok.declarations.all_defs c.in-Ok.declarations.definitions e c.in-Ok.ensures.holds c.in-Ok.ensures.behind
     (f (world_of c.args.fragments.items c.args.extensions.now) c.in-Ok.ensures.holds)) c.resolve_declarations.result c.resolve_declarations.ensures.as_declared
 
 pub returns-in-Err-clause-as_declared : goal.returns-in-Err-clause-as_declared
 returns-in-Err-clause-as_declared c =
-    carried Declarations ValidatorSchema (λ e. RefusesAt (world_of c.args.fragments.items c.args.extensions.now) Shadowing (told e))
-    (λ e. is_repeated (told e) ≡ true → KeepsDeclarations (world_of c.args.fragments.items c.args.extensions.now) (flat_map definitions_of c.args.fragments.items) e)
-    (λ e r is. absurd (true-false _ is (shadowing_unrepeated (world_of c.args.fragments.items c.args.extensions.now) (told e) r))) c.in-Err.failure c.in-Err.ensures.refused
+    carried Declarations ValidatorSchema (KeepsDeclared (flat_map definitions_of c.args.fragments.items)) (KeepsDeclarations (world_of c.args.fragments.items c.args.extensions.now) (flat_map definitions_of c.args.fragments.items))
+    (keeps_own (world_of c.args.fragments.items c.args.extensions.now) (flat_map definitions_of c.args.fragments.items)) c.in-Err.failure c.in-Err.ensures.as_declared

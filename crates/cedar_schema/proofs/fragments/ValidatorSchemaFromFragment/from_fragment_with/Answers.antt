@@ -7,9 +7,9 @@ use Rattle.cedar_fragment_world.specs.of_convert_fragment.Views.{fragment_seen}
 use Rattle.cedar_names.specs.Extensions.{extension_words}
 use Rattle.cedar_phases.proofs.Carried.{carried, refused}
 use Rattle.cedar_phases.specs.Holding.{world_of}
-use Rattle.cedar_phases.specs.Kept.{KeepsDeclarations, is_missing, is_repeated}
+use Rattle.cedar_phases.specs.Kept.{KeepsDeclarations, is_missing, tells_declared}
 use Rattle.cedar_phases.specs.of_resolved.declared.schema.ValidatorSchema.{ValidatorSchema}
-use Rattle.cedar_schema.proofs.OtherFaults.{fragment_other, fragment_unrepeated}
+use Rattle.cedar_schema.proofs.OtherFaults.{fragment_other, fragment_tells_none}
 use Rattle.cedar_schema.specs.Kept.{KeepsDeclarationsOf, KeepsReferencesOf}
 use Rattle.cedar_schema_error.specs.Told.{told}
 use Rattle.cedar_schema_error.specs.declared.action_behavior.ActionBehavior.TheVariants.{ProhibitAttributes}
@@ -29,13 +29,13 @@ returns-in-Err-clause-kept c =
 
 pub returns-in-Ok-clause-as_declared : goal.returns-in-Ok-clause-as_declared
 returns-in-Ok-clause-as_declared c =
-    refused (λ e. is_repeated (told e) ≡ true → KeepsDeclarations (world_of c.in-Ok.definitions.items c.args.extensions.now) (flat_map definitions_of c.in-Ok.definitions.items) e)
-    (λ e. is_repeated (told e) ≡ true → KeepsDeclarationsOf (extension_words c.args.extensions.now) c.args.fragment e)
-    (λ e kept is. (flat_map definitions_of c.in-Ok.definitions.items, c.in-Ok.ensures.definitions, subst (λ W. KeepsDeclarations W (flat_map definitions_of c.in-Ok.definitions.items) e) c.in-Ok.ensures.world (kept is)))
+    refused (KeepsDeclarations (world_of c.in-Ok.definitions.items c.args.extensions.now) (flat_map definitions_of c.in-Ok.definitions.items))
+    (λ e. tells_declared (told e) ≡ true → KeepsDeclarationsOf (extension_words c.args.extensions.now) c.args.fragment e)
+    (λ e kept is. (flat_map definitions_of c.in-Ok.definitions.items, c.in-Ok.ensures.definitions, subst (λ W. KeepsDeclarations W (flat_map definitions_of c.in-Ok.definitions.items) e) c.in-Ok.ensures.world kept))
     c.from_schema_fragments.result c.from_schema_fragments.ensures.as_declared
 
 pub returns-in-Err-clause-as_declared : goal.returns-in-Err-clause-as_declared
 returns-in-Err-clause-as_declared c =
     carried ValidatorSchema ValidatorSchema (λ e. IsFirst (fragment_faults ProhibitAttributes (fragment_seen c.args.fragment)) (told e))
-    (λ e. is_repeated (told e) ≡ true → KeepsDeclarationsOf (extension_words c.args.extensions.now) c.args.fragment e)
-    (λ e first is. absurd (fragment_unrepeated ProhibitAttributes (fragment_seen c.args.fragment) (told e) first is)) c.in-Err.failure c.in-Err.ensures.refused
+    (λ e. tells_declared (told e) ≡ true → KeepsDeclarationsOf (extension_words c.args.extensions.now) c.args.fragment e)
+    (λ e first is. absurd (fragment_tells_none ProhibitAttributes (fragment_seen c.args.fragment) (told e) first is)) c.in-Err.failure c.in-Err.ensures.refused
