@@ -1,0 +1,7 @@
+-- SPDX-License-Identifier: Apache-2.0
+-- What is one text.
+use Rattle.std.specs.Prelude.{◌≡◌, ℕ, List}
+
+-- at most one text is due
+abbrev pub IsOne : (List ℕ → Type 0) → Type 0
+IsOne Due = (due due' : List ℕ) → Due due → Due due' → due ≡ due'
