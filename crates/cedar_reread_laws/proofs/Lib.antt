@@ -1,14 +1,14 @@
 -- SPDX-License-Identifier: Apache-2.0
 mod Conditions
 mod Denoting
-mod FaultsKept
+pub mod FaultsKept
 mod Known
 mod NestsAlike
 mod NoCollisions
 mod Places
 mod Placed
 mod Printing
-mod SoundParts
+pub mod SoundParts
 mod SoundTypes
 mod Told
 mod Warned
