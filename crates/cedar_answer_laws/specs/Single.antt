@@ -3,5 +3,5 @@
 use Rattle.std.specs.Prelude.{◌≡◌, ℕ, List}
 
 -- at most one text is due
-abbrev pub IsOne : (List ℕ → Type 0) → Type 0
-IsOne Due = (due due' : List ℕ) → Due due → Due due' → due ≡ due'
+abbrev pub AtMostOne : (List ℕ → Type 0) → Type 0
+AtMostOne Due = (due due' : List ℕ) → Due due → Due due' → due ≡ due'

@@ -1,6 +1,6 @@
 // SPDX-License-Identifier: Apache-2.0
 ghost use Rattle.std.specs.Prelude.{ℕ, List};
-ghost use Rattle.cedar_answer_laws.specs.Single.{IsOne};
+ghost use Rattle.cedar_answer_laws.specs.Single.{AtMostOne};
 ghost use Rattle.cedar_answers.specs.Making.{Makes, Tells};
 ghost use Rattle.cedar_commands.specs.declared.command.Command.TheVariants.{Bench, Check, Resolve, ResolveJson, Review, ToCedar, ToJson};
 ghost use Rattle.cedar_commands.specs.declared.command.Review.TheVariants.{Compat, Conform};
@@ -9,34 +9,34 @@ ghost use Rattle.cedar_commands.specs.declared.command.Review.TheVariants.{Compa
 #[tactic(auto, using(crate::proofs::Due::one_resolved, crate::proofs::Due::one_resolved_json, crate::proofs::Due::one_checked, crate::proofs::Due::one_to_cedar, crate::proofs::Due::one_conform, crate::proofs::Due::one_compat, crate::proofs::Due::one_bench))]
 pub fn one_due()
     ensures resolve { (text : List ℕ) (extensions : List (List ℕ))
-        → IsOne (Makes Resolve text extensions) }
+        → AtMostOne (Makes Resolve text extensions) }
     ensures resolve_json { (text : List ℕ) (extensions : List (List ℕ))
-        → IsOne (Makes ResolveJson text extensions) }
+        → AtMostOne (Makes ResolveJson text extensions) }
     ensures check { (text : List ℕ) (extensions : List (List ℕ))
-        → IsOne (Makes Check text extensions) }
+        → AtMostOne (Makes Check text extensions) }
     ensures to_cedar { (text : List ℕ) (extensions : List (List ℕ))
-        → IsOne (Makes ToCedar text extensions) }
+        → AtMostOne (Makes ToCedar text extensions) }
     ensures conform { (text : List ℕ) (extensions : List (List ℕ))
-        → IsOne (Makes (Review Conform) text extensions) }
+        → AtMostOne (Makes (Review Conform) text extensions) }
     ensures compat { (text : List ℕ) (extensions : List (List ℕ))
-        → IsOne (Makes (Review Compat) text extensions) }
+        → AtMostOne (Makes (Review Compat) text extensions) }
     ensures bench { (n : ℕ) (text : List ℕ) (extensions : List (List ℕ))
-        → IsOne (Makes (Bench n) text extensions) }
+        → AtMostOne (Makes (Bench n) text extensions) }
 {}
 
 /// A law: what a command tells of a text that it refuses is one text. It does nothing when it runs.
 #[tactic(auto, using(crate::proofs::Told::one_resolve_told, crate::proofs::Told::one_resolve_json_told, crate::proofs::Told::one_check_told, crate::proofs::Told::one_to_json_told, crate::proofs::Told::one_to_cedar_told, crate::proofs::Told::one_bench_told))]
 pub fn one_told()
     ensures resolve { (text : List ℕ) (extensions : List (List ℕ))
-        → IsOne (Tells Resolve text extensions) }
+        → AtMostOne (Tells Resolve text extensions) }
     ensures resolve_json { (text : List ℕ) (extensions : List (List ℕ))
-        → IsOne (Tells ResolveJson text extensions) }
+        → AtMostOne (Tells ResolveJson text extensions) }
     ensures check { (text : List ℕ) (extensions : List (List ℕ))
-        → IsOne (Tells Check text extensions) }
+        → AtMostOne (Tells Check text extensions) }
     ensures to_json { (text : List ℕ) (extensions : List (List ℕ))
-        → IsOne (Tells ToJson text extensions) }
+        → AtMostOne (Tells ToJson text extensions) }
     ensures to_cedar { (text : List ℕ) (extensions : List (List ℕ))
-        → IsOne (Tells ToCedar text extensions) }
+        → AtMostOne (Tells ToCedar text extensions) }
     ensures bench { (n : ℕ) (text : List ℕ) (extensions : List (List ℕ))
-        → IsOne (Tells (Bench n) text extensions) }
+        → AtMostOne (Tells (Bench n) text extensions) }
 {}

@@ -17,12 +17,13 @@ use Rattle.cedar_reread_laws.proofs.SoundParts.{ActionIsSound, DefinitionIsSound
 use Rattle.cedar_schema_error.specs.declared.action_behavior.ActionBehavior.TheVariants.{ProhibitAttributes}
 use Rattle.cedar_schema_json.specs.Fragments.{SoundFragment}
 use Rattle.cedar_json_written_laws.specs.Writable.{WritableFragment}
+use Rattle.cedar_json_schema_laws.specs.Bare.{IsBare}
 use Rattle.cedar_json_schema_laws.specs.TypeWords.{IsNoWord, OfAction, OfDefinition, OfEntity}
 use Rattle.cedar_json_schema_laws.proofs.DeclaredTypes.{ShapeFits}
 use Rattle.cedar_json_schema_laws.proofs.SeenFragments.{ActionFits, AnyKey, CommonFits, DefinitionFits, EntityFits, EntryIs, FreeKey, NamespaceFits}
 use Rattle.cedar_json_schema_laws.proofs.SeenTypes.{Fits}
 use Rattle.cedar_json_schema_laws.proofs.WritableFragments.{fragment_writable}
-use Rattle.cedar_json_held_laws.specs.Readable.{IsBare, IsReadable, NamesNoType}
+use Rattle.cedar_json_held_laws.specs.Readable.{IsReadable, NamesNoType}
 use Rattle.cedar_json_held_laws.proofs.HeldTypes.{is_no_word, shape_fits, type_fits}
 
 -- ---- contents

@@ -1,14 +1,14 @@
 -- SPDX-License-Identifier: Apache-2.0
 -- Which sound fragments JSON has the words to say. Nothing is asked of the order of maps: that of each fragment that is held
 -- is known (`maps_in_order`).
-use Rattle.std.specs.Prelude.{◌≡◌, ⊤, false, List, [], Option, Some, None}
+use Rattle.std.specs.Prelude.{◌≡◌, ⊤, false}
 use Rattle.std.specs.List.{AllByRecursion}
 use Rattle.cedar_text.specs.Joining.{joined}
-use Rattle.cedar_tree.specs.Trees.{ByKey, Text}
 use Rattle.cedar_written.specs.CommonTypeIds.{is_reserved_basename}
 use Rattle.cedar_convert_fragment.specs.Fragments.{Fields, Form, Fragment, TypeAt, written, common_type, set_of, record_of, no_fields, field}
 use Rattle.cedar_json_types.specs.Types.{word_of}
 use Rattle.cedar_json_types.specs.declared.words.TypeWord.TheVariants as word
+use Rattle.cedar_json_schema_laws.specs.Bare.{IsBare}
 use Rattle.cedar_reread.specs.EachType.{EachType}
 
 -- where a type is the name of a common type, at every depth, that name is none of the words of types
@@ -26,14 +26,10 @@ abbrev mutual
   FieldsNameNoType no_fields = ⊤
   FieldsNameNoType (field name ty annotations required others) = NamesNoType ty × FieldsNameNoType others
 
--- the unnamed namespace has no annotations
-abbrev pub IsBare : Option (List Text) → ByKey → Type 0
-IsBare None annotations = annotations ≡ []
-IsBare (Some name) annotations = ⊤
-
 pub record IsReadable (F : Fragment) : Type 0 where
   -- no type is a word of types that is meant as the name of a common type
   pub no_words : EachType NamesNoType F
   -- no common type has a reserved name
   pub no_reserved : AllByRecursion (λ n. AllByRecursion (λ e. is_reserved_basename e.0 ≡ false) n.1.common_types) F
+  -- the unnamed namespace has no annotations
   pub bare : AllByRecursion (λ n. IsBare n.0 n.1.annotations) F

@@ -25,7 +25,8 @@ use Rattle.cedar_convert_fragment.specs.Fragments.{ByName, Fragment, TypeAt}
 use Rattle.cedar_json_schema_laws.proofs.DeclaredTypes.{IsShallow, ShapeFits, closed_fits, shallow_fits, shape_fits}
 use Rattle.cedar_json_schema_laws.proofs.Entries.{all_append, all_flat, all_of_map}
 use Rattle.cedar_resolving_laws.proofs.MapsBack.{all_first, all_second}
-use Rattle.cedar_json_schema_laws.proofs.SeenFragments.{ActionFits, AnyKey, CommonFits, DefinitionFits, EntityFits, EntryIs, FragmentFits, FreeKey, IsBare, NamespaceFits}
+use Rattle.cedar_json_schema_laws.specs.Bare.{IsBare}
+use Rattle.cedar_json_schema_laws.proofs.SeenFragments.{ActionFits, AnyKey, CommonFits, DefinitionFits, EntityFits, EntryIs, FragmentFits, FreeKey, NamespaceFits}
 use Rattle.cedar_json_schema_laws.proofs.SeenTypes.{Fits, form_depth}
 
 -- ---- declarations

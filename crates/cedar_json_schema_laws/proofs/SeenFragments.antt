@@ -1,13 +1,14 @@
 -- SPDX-License-Identifier: Apache-2.0
 -- Fragments by words and places that may be written, but for shapes and contexts that are words of types.
-use Rattle.std.specs.Prelude.{◌≡◌, ⊤, false, List, [], Option, Some, None, IfSome}
+use Rattle.std.specs.Prelude.{◌≡◌, ⊤, false, List, Option, None, IfSome}
 use Rattle.std.specs.List.{AllByRecursion}
 use Rattle.cedar_data.specs.Maps.{IsSortedMap}
 use Rattle.cedar_names.specs.Order.{word_cmp}
-use Rattle.cedar_tree.specs.Trees.{ByKey, Text}
+use Rattle.cedar_tree.specs.Trees.{Text}
 use Rattle.cedar_written.specs.CommonTypeIds.{is_reserved_basename}
 use Rattle.cedar_convert_faults.specs.Gathering.{namespace_cmp}
 use Rattle.cedar_convert_fragment.specs.Fragments.{ActionContent, Declared, Definition, EntityContent, Fragment, TypeAt, Shaped, Listed}
+use Rattle.cedar_json_schema_laws.specs.Bare.{IsBare}
 use Rattle.cedar_json_schema_laws.proofs.SeenTypes.{Fits}
 use Rattle.cedar_json_schema_laws.proofs.DeclaredTypes.{ShapeFits}
 
@@ -41,11 +42,6 @@ DefinitionFits d =
     (IsSortedMap word_cmp d.common_types × AllByRecursion (EntryIs FreeKey CommonFits) d.common_types)
     × (IsSortedMap word_cmp d.entity_types × AllByRecursion (EntryIs AnyKey EntityFits) d.entity_types)
     × (IsSortedMap word_cmp d.actions × AllByRecursion (EntryIs AnyKey ActionFits) d.actions) × IsSortedMap word_cmp d.annotations
-
--- the unnamed namespace has no annotations
-abbrev pub IsBare : Option (List Text) → ByKey → Type 0
-IsBare None annotations = annotations ≡ []
-IsBare (Some name) annotations = ⊤
 
 -- a namespace with its name
 abbrev pub NamespaceFits : Option (List Text) × Definition → Type 0

@@ -35,7 +35,8 @@ use Rattle.cedar_json_written_laws.specs.Writable.{IsBareUnnamed, WritableAction
 use Rattle.cedar_json_schema_laws.specs.TypeWords.{IsNoWord, NamesNoWord, OfAction, OfDefinition, OfEntity}
 use Rattle.cedar_json_schema_laws.proofs.SeenTypes.{Fits}
 use Rattle.cedar_json_schema_laws.proofs.DeclaredTypes.{ShapeFits, shape_named}
-use Rattle.cedar_json_schema_laws.proofs.SeenFragments.{ActionFits, AnyKey, CommonFits, DefinitionFits, EntityFits, EntryIs, FragmentFits, FreeKey, IsBare, NamespaceFits}
+use Rattle.cedar_json_schema_laws.specs.Bare.{IsBare}
+use Rattle.cedar_json_schema_laws.proofs.SeenFragments.{ActionFits, AnyKey, CommonFits, DefinitionFits, EntityFits, EntryIs, FragmentFits, FreeKey, NamespaceFits}
 use Rattle.cedar_json_schema_laws.proofs.WritableTypes.{annotations_writable, sorted_through, type_writable}
 
 -- ---- declarations
