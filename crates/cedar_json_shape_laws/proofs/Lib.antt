@@ -4,5 +4,6 @@ pub mod Members
 pub mod Names
 pub mod Namespaces
 pub mod Steps
+pub mod Texts
 pub mod Types
 pub mod Values

@@ -1,5 +1,5 @@
 // SPDX-License-Identifier: Apache-2.0
-ghost use Rattle.std.specs.Prelude.{◌≡◌, None};
+ghost use Rattle.std.specs.Prelude.{◌≡◌, ℕ, List, None};
 ghost use Rattle.serde_json.specs.Data.{Data};
 ghost use Rattle.cedar_written.specs.declared.raw_name.RawName.{RawName};
 ghost use Rattle.cedar_written.specs.declared.ty.SchemaType.{SchemaType};
@@ -12,6 +12,7 @@ ghost use Rattle.cedar_fragment.specs.declared.definitions.CommonType.{CommonTyp
 ghost use Rattle.cedar_fragment.specs.declared.definitions.EntityType.{EntityType};
 ghost use Rattle.cedar_fragment.specs.declared.definitions.Fragment.{Fragment};
 ghost use Rattle.cedar_fragment.specs.declared.definitions.NamespaceDefinition.{NamespaceDefinition};
+ghost use Rattle.cedar_json.specs.TextFaults.{IsFragmentText, advised_fault};
 ghost use Rattle.cedar_json_types.specs.Types.{AttributeShape, Part, attribute_fault, part_fault};
 ghost use Rattle.cedar_json_types.specs.declared.keyed.KeySet.TheVariants as set;
 ghost use Rattle.cedar_json_namespaces.specs.of_json_read.Declarations.{IsAction, IsApplySpec, IsCommonType, IsEntityType, IsParent, action_fault, apply_fault, common_type_fault, entity_fault, parent_fault};
@@ -39,4 +40,13 @@ pub fn what_has_no_fault_has_a_shape()
         → (n : NamespaceDefinition RawName over_raw) × IsNamespace d n }
     ensures fragment { (d : Data) → fragment_fault d ≡ None
         → (f : Fragment RawName over_raw) × IsFragment d f }
+{}
+
+/// A law: a text that is that of a fragment has no fault, and a text without a fault is that of one. It does nothing when
+/// it runs.
+pub fn texts_without_fault()
+    ensures clean { (text : List ℕ) (f : Fragment RawName over_raw) → IsFragmentText text f
+        → advised_fault text ≡ None }
+    ensures shape { (text : List ℕ) → advised_fault text ≡ None
+        → (f : Fragment RawName over_raw) × IsFragmentText text f }
 {}
