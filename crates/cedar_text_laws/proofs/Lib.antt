@@ -1,0 +1,10 @@
+-- SPDX-License-Identifier: Apache-2.0
+pub mod Lexing
+pub mod Lexemes
+pub mod Viability
+pub mod Endings
+pub mod Repeating
+pub mod Breaking
+pub mod Parsing
+pub mod Declaring
+pub mod WellFormed
