@@ -1,0 +1,9 @@
+-- SPDX-License-Identifier: Apache-2.0
+pub mod JsonDeclarations
+pub mod JsonTypes
+pub mod Lists
+pub mod PrintedDeclarations
+pub mod PrintedTypes
+pub mod SeenJson
+pub mod SeenPieces
+pub mod Worded
