@@ -5,4 +5,5 @@ pub mod Together
 pub mod Meaning
 pub mod Loops
 pub mod SameMaps
+pub mod SeenLookups
 pub mod SaidAlike

@@ -49,6 +49,13 @@ pub fn orders_of_merged()
         → said (fragment_seen F) ≡ said (fragment_seen G) }
 {}
 
+/// A law: fragments that are seen alike, one by one, are merged into one fragment, the places of the names of its
+/// namespaces and of their annotations aside. It does nothing when it runs.
+pub fn seen_of_merged()
+    ensures { (L M : List Held) → map fragment_seen L ≡ map fragment_seen M → (F G : Held)
+        → Merged L F → Merged M G → said (fragment_seen F) ≡ said (fragment_seen G) }
+{}
+
 /// Answers what `merge` does. The fragment that it answers declares what all fragments do together, is sound where they
 /// are, and then denotes the same schema.
 pub fn merge_as_one(
