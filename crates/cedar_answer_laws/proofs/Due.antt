@@ -1,9 +1,13 @@
 -- SPDX-License-Identifier: Apache-2.0
 -- What commands make of a text is one text.
-use Rattle.std.proofs.Common.{◌≡◌, ℕ, List, [], Option, Some, sym, ap, ◌∙◌}
-use Rattle.cedar_answers.specs.Making.{IsSchemaOf, Makes, MakesCedar, MakesJsonListing}
-use Rattle.cedar_commands.specs.declared.command.Command.TheVariants.{Resolve, ResolveJson, Check, ToCedar, Review, Bench}
+use Rattle.std.proofs.Common.{◌≡◌, ℕ, List, [], ◌++◌, codes, Option, Some, sym, ap, ◌∙◌}
+use Rattle.cedar_answers.specs.Making.{IsSchemaOf, Makes, MakesCedar, MakesJson, MakesJsonListing}
+use Rattle.cedar_commands.specs.declared.command.Command.TheVariants.{Resolve, ResolveJson, Check, ToJson, ToCedar, Review, Bench}
 use Rattle.cedar_commands.specs.declared.command.Review.TheVariants.{Conform, Compat}
+use Rattle.serde_json.specs.Written.{compact_text}
+use Rattle.cedar_convert_fragment.specs.Views.{fragment_seen}
+use Rattle.cedar_seen_laws.proofs.JsonDeclarations.{json_alike}
+use Rattle.cedar_schema_json.proofs.Declaring.{one_declared}
 use Rattle.cedar_convert_warnings.specs.declared.warnings.SchemaWarning.{SchemaWarning}
 use Rattle.cedar_fragment.specs.Printed.{print}
 use Rattle.cedar_schema_json.specs.of_json.TextFaults.{IsFragmentText, advised_fault}
@@ -35,8 +39,13 @@ one_json_listing text extensions due due' (S, is, made) (T, is', made') =
     let same = one_schema_at_most (IsFragmentText text) (advised_fault text) extensions (text_once text) (text_clean text) (schema_in S) (schema_in T) is.denotes is'.denotes in
     made ∙ one_listing S T is.consistent is'.consistent same [] ∙ sym made'
 
+one_json : (text : List ℕ) (extensions : List (List ℕ)) → AtMostOne (MakesJson text extensions)
+one_json text extensions due due' (F, ws, declares, made) (G, vs, declares', made') =
+    let same = (one_declared text extensions (fragment_seen F) (fragment_seen G) ws vs declares declares').0 in
+    made ∙ ap (λ d. compact_text d ++ codes "\n") (json_alike F G same) ∙ sym made'
+
 -- what is kept is one
-one_kept : {o : Option (List ℕ)} {due due' : List ℕ} → o ≡ Some due → o ≡ Some due' → due ≡ due'
+pub one_kept : {o : Option (List ℕ)} {due due' : List ℕ} → o ≡ Some due → o ≡ Some due' → due ≡ due'
 one_kept p q = cc
 
 one_cedar : (text : List ℕ) → AtMostOne (MakesCedar text)
@@ -58,6 +67,10 @@ one_bench n = one_counted
 pub one_resolved_json : (text : List ℕ) (extensions : List (List ℕ)) → AtMostOne (Makes ResolveJson text extensions)
 unfolding Makes
 one_resolved_json = one_json_listing
+
+pub one_to_json : (text : List ℕ) (extensions : List (List ℕ)) → AtMostOne (Makes ToJson text extensions)
+unfolding Makes
+one_to_json = one_json
 
 pub one_to_cedar : (text : List ℕ) (extensions : List (List ℕ)) → AtMostOne (Makes ToCedar text extensions)
 unfolding Makes

@@ -1,3 +1,12 @@
 -- SPDX-License-Identifier: Apache-2.0
+pub mod Collided
 pub mod Due
+pub mod Environments
+pub mod FaultsTold
+pub mod Inputs
+pub mod Merges
+pub mod MergesTold
+pub mod Requests
+pub mod ReviewsTold
 pub mod Told
+pub mod UnmergedTold

@@ -24,7 +24,7 @@ use Rattle.cedar_answer_laws.specs.Single.{AtMostOne}
 printed_alike : (e e' : CedarSchemaError) → AreAlike e e' → refusal_text e ≡ refusal_text e'
 printed_alike e e' same = λ i. error_line (same.0 i) ++ help_line (same.1 i)
 
-one_schema_told : (text : List ℕ) (extensions : List (List ℕ)) → AtMostOne (TellsNoSchema text extensions)
+pub one_schema_told : (text : List ℕ) (extensions : List (List ℕ)) → AtMostOne (TellsNoSchema text extensions)
 one_schema_told text extensions due due' (e, cause, is) (e', cause', is') =
     is ∙ printed_alike e e' (alike_of_text text extensions e e' cause cause') ∙ sym is'
 
@@ -49,7 +49,7 @@ unfolding Tells
 one_resolve_json_told = one_json_told
 
 -- a text that declares nothing
-one_parsing_told : (text : List ℕ) → AtMostOne (TellsNoDeclaration text)
+pub one_parsing_told : (text : List ℕ) → AtMostOne (TellsNoDeclaration text)
 one_parsing_told text due due' (e, cause, is) (e', cause', is') = is ∙ printed_alike e e' (by e e' cause cause') ∙ sym is'
   where
     by : (e e' : CedarSchemaError) → ParsingCause text e → ParsingCause text e' → AreAlike e e'
